@@ -1,0 +1,34 @@
+//! The program `blic`: it hands its words, the files and standard output to `run`.
+#![tactic(auto)]
+
+use blic_basic::{RealFiles, StdoutSink, Wrote, write_all_counted};
+use blic_top::run;
+use std::process::ExitCode;
+use std::rt::Env;
+use std::{env, io};
+
+fn main(rt: HostRuntime) -> ExitCode {
+    let mut out = StdoutSink::new(io::writer(&rt));
+    let mut files = RealFiles::new(&rt);
+    let status = match words(&rt) {
+        Ok(words) => run(rt.alloc(), &words, &mut files, &mut out),
+        Err(error) if error.kind() == io::ErrorKind::OutOfMemory => {
+            match write_all_counted(&mut out, b"c want of memory\n") {
+                Wrote::All => 9,
+                Wrote::Failed(_) => 4,
+            }
+        }
+        // A word that is no text fits no command.
+        Err(_) => run(rt.alloc(), &Vec::new(rt.alloc()), &mut files, &mut out),
+    };
+    ExitCode::from(status)
+}
+
+// The words behind the program's name.
+fn words<R: Env + AllocGlobal>(rt: &R) -> io::Result<Vec<String>> {
+    let mut words = Vec::new(rt.alloc());
+    for word in env::args(rt)?.skip(1) {
+        words.push(word)?;
+    }
+    Ok(words)
+}

@@ -1,0 +1,4 @@
+pub mod Memory
+pub mod Named
+pub mod Opening
+pub mod Outside

@@ -1,0 +1,187 @@
+// The forms in memory at listed calls, pieces and rooms; the forms that never fail; the system.
+use crate::{
+    Files, Given, MemFile, MemFiles, MemSink, MemSource, Opened, RealFiles, RealSource, Sink,
+    Source, StdoutSink, Steps, SureFiles, SureSink, Taken, Wrote, write_all_counted,
+};
+use std::alloc::{AllocError, Global};
+use std::marker::Brand;
+use std::mem::size_of;
+use std::test::Fail;
+use std::{env, fs, io, process};
+
+#[test]
+fn a_source_gives_pieces_and_fails_at_the_listed_calls(rt: HostRuntime) -> Result<(), Fail> {
+    let bytes = Vec::from_slice(rt.alloc(), b"abcde")?;
+    let failing = vec![in rt.alloc(); 1, 3]?;
+    let mut source = MemSource::new(bytes, 2, failing);
+    let mut buf = [0; 3];
+    let rows = [
+        (Taken::Got(2), "cde"),
+        (Taken::Failed, "cde"),
+        (Taken::Got(2), "e"),
+        (Taken::Failed, "e"),
+        (Taken::Got(1), ""),
+        (Taken::End, ""),
+        (Taken::End, ""),
+    ];
+    for (taken, left) in rows {
+        assert_eq!(rt; source.take(&mut buf), taken, "with {left:?} left");
+        assert_eq!(rt; source.left(), left.as_bytes());
+    }
+    assert_eq!(rt; buf[0], b'e');
+    assert_eq!(rt; source.faults(), 2);
+    Ok(())
+}
+
+#[test]
+fn a_sink_takes_pieces_until_its_room_is_used_up(rt: HostRuntime) -> Result<(), Fail> {
+    let failing = vec![in rt.alloc(); 1]?;
+    let mut sink = MemSink::new(rt.alloc(), 2, failing, 5)?;
+    let rows = [
+        (Given::Took(2), "ab"),
+        (Given::Failed, "ab"),
+        (Given::Took(2), "abab"),
+        (Given::Took(1), "ababa"),
+        (Given::Failed, "ababa"),
+    ];
+    for (given, held) in rows {
+        assert_eq!(rt; sink.give(b"abc"), given, "with {held:?} held");
+        assert_eq!(rt; sink.bytes(), held.as_bytes());
+    }
+    assert_eq!(rt; sink.faults(), 2);
+    Ok(())
+}
+
+#[test]
+fn writing_stops_at_a_fault_with_the_exact_prefix(rt: HostRuntime) -> Result<(), Fail> {
+    let none: [u64; 0] = [];
+    let rows = [
+        (none.as_slice(), 9, Wrote::All, "hello"),
+        ([3].as_slice(), 9, Wrote::All, "hello"),
+        ([1].as_slice(), 9, Wrote::Failed(2), "he"),
+        ([0].as_slice(), 9, Wrote::Failed(0), ""),
+        (none.as_slice(), 3, Wrote::Failed(3), "hel"),
+    ];
+    for (failing, room, wrote, held) in rows {
+        let failing = Vec::from_slice(rt.alloc(), failing)?;
+        let mut sink = MemSink::new(rt.alloc(), 2, failing, room)?;
+        assert_eq!(rt;
+            write_all_counted(&mut sink, b"hello"),
+            wrote,
+            "with {held:?} held"
+        );
+        assert_eq!(rt; sink.bytes(), held.as_bytes());
+        assert_eq!(rt; sink.faults(), u64::from(wrote != Wrote::All));
+    }
+    Ok(())
+}
+
+fn file(alloc: Global, name: &str, bytes: &str) -> Result<MemFile, AllocError> {
+    Ok(MemFile {
+        name: String::from_str(alloc, name)?,
+        bytes: Vec::from_slice(alloc, bytes.as_bytes())?,
+    })
+}
+
+#[test]
+fn files_open_by_name_within_their_room(rt: HostRuntime) -> Result<(), Fail> {
+    let alloc = rt.alloc();
+    let two = vec![in alloc; file(alloc, "two", "first")?, file(alloc, "two", "second")?]?;
+    let failing = vec![in alloc; 1]?;
+    let takes_failing = vec![in alloc; 0]?;
+    let mut files = MemFiles::new(alloc, two, 4, failing, takes_failing, 2)?;
+    let rows = [
+        ("two", Some("first")),
+        ("two", None),
+        ("none", None),
+        ("two", Some("first")),
+        ("two", None),
+    ];
+    let mut buf = [0; 8];
+    for (name, bytes) in rows {
+        match files.open_file(name) {
+            Opened::Source(mut source) => {
+                assert_eq!(rt; Some(source.left()), bytes.map(|b| b.as_bytes()));
+                assert_eq!(rt; source.take(&mut buf), Taken::Failed);
+                assert_eq!(rt; source.take(&mut buf), Taken::Got(4));
+                files.close_file(source);
+            }
+            Opened::Failed => assert!(rt; bytes.is_none(), "at {name:?}"),
+        }
+    }
+    assert_eq!(rt; files.faults(), 5);
+    Ok(())
+}
+
+#[test]
+fn sure_forms_have_every_file_and_take_every_piece(rt: HostRuntime) {
+    let mut files = SureFiles::new(b"hello");
+    let mut buf = [0; 3];
+    match files.open_file("any") {
+        Opened::Source(mut source) => {
+            assert_eq!(rt; source.take(&mut buf), Taken::Got(3));
+            assert_eq!(rt; buf.as_slice(), b"hel".as_slice());
+            assert_eq!(rt; source.take(&mut buf), Taken::Got(2));
+            assert_eq!(rt; source.take(&mut buf), Taken::End);
+            files.close_file(source);
+        }
+        Opened::Failed => panic!(rt; "a sure file"),
+    }
+    assert_eq!(rt;
+        write_all_counted(&mut SureSink::new(), b"hello"),
+        Wrote::All
+    );
+}
+
+#[test]
+fn a_file_of_the_system_is_read_back(rt: HostRuntime) -> Result<(), Fail> {
+    let name = format!(in rt.alloc(); "blic_basic_{}", process::id(rt.process()))?;
+    let path = env::temp_dir(&rt)?.join(rt.alloc(), name.as_str())?;
+    fs::write(&rt, path.as_str(), "hello")?;
+    let mut files = RealFiles::new(&rt);
+    let mut buf = [0; 8];
+    match files.open_file(path.as_str()) {
+        Opened::Source(mut source) => {
+            assert_eq!(rt; source.take(&mut buf), Taken::Got(5));
+            assert_eq!(rt; &buf[..5], b"hello".as_slice());
+            assert_eq!(rt; source.take(&mut buf), Taken::End);
+            files.close_file(source);
+        }
+        Opened::Failed => panic!(rt; "the file that was written"),
+    }
+    fs::remove_file(&rt, path.as_str())?;
+    assert_eq!(rt; files.faults(), 0);
+    assert!(rt; matches!(files.open_file(path.as_str()), Opened::Failed));
+    assert_eq!(rt; files.faults(), 1);
+    Ok(())
+}
+
+#[test]
+fn a_directory_opens_and_its_reads_are_faults(rt: HostRuntime) {
+    let mut files = RealFiles::new(&rt);
+    match files.open_file("/") {
+        Opened::Source(mut source) => {
+            assert_eq!(rt; source.take(&mut [0; 8]), Taken::Failed);
+            assert_eq!(rt; source.faults(), 1);
+            files.close_file(source);
+        }
+        Opened::Failed => panic!(rt; "the root directory"),
+    }
+    assert_eq!(rt; files.faults(), 1);
+}
+
+#[test]
+fn a_writer_that_takes_no_more_is_a_fault(rt: HostRuntime) {
+    let mut out = StdoutSink::new(rt.stdout());
+    assert_eq!(rt; write_all_counted(&mut out, b"hello\n"), Wrote::All);
+    assert_eq!(rt; out.faults(), 0);
+    let mut room = [0; 3];
+    let mut full = StdoutSink::new(room.as_mut_slice());
+    assert_eq!(rt; write_all_counted(&mut full, b"hello"), Wrote::Failed(3));
+    assert_eq!(rt; full.faults(), 1);
+}
+
+#[test]
+fn steps_hold_no_byte(rt: HostRuntime) {
+    assert_eq!(rt; size_of::<Steps<Brand>>(), 0);
+}

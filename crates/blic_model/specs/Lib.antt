@@ -1,0 +1,4 @@
+pub mod Formula
+pub mod Limits
+pub mod Marks
+pub mod Truth

@@ -1,0 +1,54 @@
+// Polynomials of degree at most two.
+ghost use Rattle.blic_field.specs.Field.{blend};
+ghost use Rattle.blic_poly2.specs.Poly.{at, HasElements, reduced_at};
+ghost use Rattle.std.specs.Prelude.{◌≡◌, ◌+◌, ◌≤◌, ℕ};
+
+use crate::linear::blended;
+use blic_basic::Steps;
+use blic_field::Fe;
+use std::sync::ledger::Ledger;
+
+/// The polynomial `c0 + c1*X + c2*X*X`.
+#[derive(Clone, Copy, Debug, PartialEq, Eq)]
+pub struct Poly2 {
+    pub c0: Fe,
+    pub c1: Fe,
+    pub c2: Fe,
+}
+
+impl Poly2 {
+    /// The value at `x`. At most two products.
+    #[tactic(auto, using(crate::proofs::Values::horner))]
+    pub fn at<L: Ledger>(&self, x: Fe, steps: &mut Steps<L>) -> Fe
+        ensures value { result ≡ at self.now x }
+        ensures at_most { steps.new ≤ steps.old + 2 }
+        ensures at_least { steps.old ≤ steps.new }
+    {
+        let slope = self.c1.add(self.c2.mul(x, steps));
+        self.c0.add(slope.mul(x, steps))
+    }
+
+    /// The value at `s` of the line through the values at 0 and 1. At most one product.
+    #[tactic(auto, using(crate::proofs::Values::reduced_by_sum))]
+    pub fn reduced_at<L: Ledger>(&self, s: Fe, steps: &mut Steps<L>) -> Fe
+        ensures value { result ≡ reduced_at self.now s }
+        ensures at_most { steps.new ≤ steps.old + 1 }
+        ensures at_least { steps.old ≤ steps.new }
+    {
+        self.c0.add(s.mul(self.c1.add(self.c2), steps))
+    }
+
+    /// The polynomial on the way from `p0` to `p1`: `p0` where `s` is 0 and `p1` where it is 1. At most three products.
+    pub fn blend<L: Ledger>(s: Fe, p0: &Poly2, p1: &Poly2, steps: &mut Steps<L>) -> Poly2
+        ensures values { (x : ℕ) → at result x ≡ blend s (at p0.now x) (at p1.now x) }
+        ensures elements { HasElements result }
+        ensures at_most { steps.new ≤ steps.old + 3 }
+        ensures at_least { steps.old ≤ steps.new }
+    {
+        Poly2 {
+            c0: blended(s, p0.c0, p1.c0, steps),
+            c1: blended(s, p0.c1, p1.c1, steps),
+            c2: blended(s, p0.c2, p1.c2, steps),
+        }
+    }
+}

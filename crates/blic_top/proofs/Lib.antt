@@ -1,0 +1,2 @@
+mod Clauses
+mod Solving

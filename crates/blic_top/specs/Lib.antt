@@ -1,0 +1,5 @@
+pub mod Assigned
+pub mod Ends
+pub mod Means
+pub mod Outcome
+pub mod Words

@@ -1,0 +1,13 @@
+//! All that the program does, over what its caller hands in.
+#![tactic(auto)]
+
+mod cases;
+mod outcome;
+mod program;
+
+pub use cases::by_cases;
+pub use outcome::Outcome;
+pub use program::run;
+
+#[cfg(test)]
+mod tests;

@@ -1,0 +1,140 @@
+// The program's work.
+ghost use Rattle.std.specs.Prelude.{◌≡◌, ◌≢◌, ◌≤◌, ◌<◌, ◌+◌, ℕ, List, Some, None, Option, ◌⊎◌, length, take, string_bytes, option_map};
+ghost use Rattle.std.specs.Io.KnownBytes.{append_known};
+ghost use Rattle.blic_basic.specs.Outside.{Rose};
+ghost use Rattle.blic_top.specs.Words.{solve_file};
+ghost use Rattle.blic_top.specs.Outcome.{status_of, text_of};
+ghost use Rattle.blic_top.specs.Means.{Means, SaysOfFile, SaysOfFormula};
+ghost use Rattle.blic_top.specs.Ends.{Says, IsTold, Solves, Limits, Refuses, IsOrNoMemory, OutcomeCounts};
+
+use crate::cases::by_cases;
+use crate::outcome::Outcome;
+use blic_basic::{Files, Opened, Sink, Wrote, write_all_counted};
+use blic_model::Formula;
+use blic_qdimacs::{ReadError, canonical_law, read};
+use std::alloc::Global;
+
+/// At most so many entries of a prefix are solved by cases.
+const MOST_ENTRIES: usize = 20;
+
+/// Does all that the program does with its words, which are without its name. Answers the exit
+/// status. Every line goes to `out`.
+///
+/// `solve FILE` reads the formula of a file in canonical text and prints its truth, as
+/// `s cnf 1 V C` with status 10 or `s cnf 0 V C` with status 20.
+///
+/// | status | where |
+/// |---|---|
+/// | 1 | the words don't fit |
+/// | 2 | the file is no canonical text of a formula within the limits |
+/// | 3 | a call on the files or on the opened file failed |
+/// | 4 | a call on `out` failed; it holds a front of what was to be printed |
+/// | 8 | the prefix has more than 20 entries |
+/// | 9 | memory ran out |
+pub fn run<F: Files, O: Sink>(alloc: Global, words: &Vec<String>, files: &mut F, out: &mut O) -> u8
+    // What is told has come, and what is printed is its text.
+    ensures says { Says (solve_file words.now.items) (F.files files.old) result (O.held out.old) (O.held out.new) }
+
+    // A fault is told only where one was.
+    ensures read_fault { result ≡ 3 → Rose (F.faults files.old) (F.faults files.new) }
+    ensures write_fault { result ≡ 4 → Rose (O.faults out.old) (O.faults out.new) }
+
+    // Where nothing failed, the status follows from the words and the file.
+    ensures usage { ¬ (Rose (O.faults out.old) (O.faults out.new)) → solve_file words.now.items ≡ None → IsOrNoMemory result 1 }
+    ensures solves { ¬ (Rose (F.faults files.old) (F.faults files.new)) → ¬ (Rose (O.faults out.old) (O.faults out.new))
+        → Solves (solve_file words.now.items) (F.files files.old) result }
+    ensures limits { ¬ (Rose (F.faults files.old) (F.faults files.new)) → ¬ (Rose (O.faults out.old) (O.faults out.new))
+        → Limits (solve_file words.now.items) (F.files files.old) result }
+    ensures refuses { ¬ (Rose (F.faults files.old) (F.faults files.new)) → ¬ (Rose (O.faults out.old) (O.faults out.new))
+        → Refuses (solve_file words.now.items) (F.files files.old) result }
+{
+    canonical_law();
+    perform(alloc, words, files, out)
+}
+
+// What `run` does, with what it says and the causes of its faults.
+fn perform<F: Files, O: Sink>(alloc: Global, words: &[String], files: &mut F, out: &mut O) -> u8
+    ensures says { Says (solve_file words.now) (F.files files.old) result (O.held out.old) (O.held out.new) }
+    ensures read_fault { result ≡ 3 → Rose (F.faults files.old) (F.faults files.new) }
+    ensures write_fault { result ≡ 4 → Rose (O.faults out.old) (O.faults out.new) }
+{
+    let outcome = decide(alloc, words, files);
+    tell(alloc, outcome, out)
+}
+
+// What there is to say.
+fn decide<F: Files>(alloc: Global, words: &[String], files: &mut F) -> Outcome
+    ensures means { Means (solve_file words.now) (F.files files.old) result }
+    ensures cause { OutcomeCounts (F.faults files.old) (F.faults files.new) result }
+{
+    match file_of(words) {
+        Some(name) => solve(alloc, name.as_str(), files),
+        None => Outcome::Usage,
+    }
+}
+
+fn file_of(words: &[String]) -> Option<&String>
+    ensures { option_map (λ file. string_bytes file.now) result ≡ solve_file words.now }
+{
+    match words {
+        [command, file] if command.as_str() == "solve" => Some(file),
+        _ => None,
+    }
+}
+
+// Solves the formula of the file of that name.
+fn solve<F: Files>(alloc: Global, name: &str, files: &mut F) -> Outcome
+    ensures says { SaysOfFile (F.files files.old) name.now result }
+    ensures cause { OutcomeCounts (F.faults files.old) (F.faults files.new) result }
+{
+    match files.open_file(name) {
+        Opened::Failed => Outcome::ReadFault,
+        Opened::Source(mut source) => {
+            let formula = read(alloc, &mut source);
+            files.close_file(source);
+            match formula {
+                Ok(formula) => solve_formula(alloc, &formula),
+                Err(ReadError::NotPlain) => Outcome::NotPlain,
+                Err(ReadError::Fault) => Outcome::ReadFault,
+                Err(ReadError::NoMem) => Outcome::NoMemory,
+            }
+        }
+    }
+}
+
+fn solve_formula(alloc: Global, formula: &Formula) -> Outcome
+    ensures { SaysOfFormula formula.now result }
+{
+    let count = formula.prefix().len();
+    if count > MOST_ENTRIES {
+        return Outcome::TooManyVariables(count);
+    }
+    match by_cases(alloc, formula) {
+        Ok(truth) => Outcome::Solved(truth, formula.vars(), formula.clause_count()),
+        Err(_) => Outcome::NoMemory,
+    }
+}
+
+// Prints the outcome's text, or that there is no memory for it, and answers the status.
+fn tell<O: Sink>(alloc: Global, outcome: Outcome, out: &mut O) -> u8
+    ensures told { IsTold outcome result (O.held out.old) (O.held out.new) ⊎ IsTold Outcome.NoMemory result (O.held out.old) (O.held out.new) }
+    ensures fault { result ≡ 4 → Rose (O.faults out.old) (O.faults out.new) }
+{
+    match outcome.text(alloc) {
+        Ok(text) => print(text.as_bytes(), outcome.status(), out),
+        Err(_) => print(b"c want of memory\n", 9, out),
+    }
+}
+
+// Appends a text. Where that fails the status is 4.
+fn print<O: Sink>(text: &[u8], status: u8, out: &mut O) -> u8
+    requires { status ≢ 4 }
+    ensures told { ((result ≡ status) × (O.held out.new ≡ append_known (O.held out.old) text.now))
+        ⊎ ((result ≡ 4) × ((n : ℕ) × (O.held out.new ≡ append_known (O.held out.old) (take n text.now)))) }
+    ensures fault { result ≡ 4 → Rose (O.faults out.old) (O.faults out.new) }
+{
+    match write_all_counted(out, text) {
+        Wrote::All => status,
+        Wrote::Failed(_) => 4,
+    }
+}
