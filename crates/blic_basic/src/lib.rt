@@ -22,7 +22,6 @@ pub use mem_source::MemSource;
 pub use real::{RealFiles, RealSource, StdoutSink};
 pub use sink::{Given, Sink, Wrote, write_all_counted};
 pub use source::{Source, Taken};
-use std::alloc::{AllocError, AllocFailed};
 pub use steps::Steps;
 pub use sure::{SureFiles, SureSink, SureSource};
 
@@ -30,14 +29,14 @@ pub use sure::{SureFiles, SureSink, SureSource};
 #[derive(Clone, Copy, Debug, PartialEq, Eq)]
 pub struct NoMem;
 
-impl From<AllocError> for NoMem {
-    fn from(_: AllocError) -> NoMem {
+impl From<std::alloc::AllocError> for NoMem {
+    fn from(_: std::alloc::AllocError) -> NoMem {
         NoMem
     }
 }
 
-impl<T: Drop> From<AllocFailed<T>> for NoMem {
-    fn from(_: AllocFailed<T>) -> NoMem {
+impl<T: Drop> From<std::alloc::AllocFailed<T>> for NoMem {
+    fn from(_: std::alloc::AllocFailed<T>) -> NoMem {
         NoMem
     }
 }

@@ -49,8 +49,8 @@ impl Model for MemFiles {
 }
 
 impl MemFiles {
-    /// Files of which `room` can be opened, each as often as one likes. The memory of all of their
-    /// sources is taken here. The calls of `open_file` whose numbers are in `failing`, counted
+    /// Files of which `room` sources can be opened in all. The memory of these is taken here, so
+    /// no later call wants any. The calls of `open_file` whose numbers are in `failing`, counted
     /// from 0, fail, and so do the calls of `take` whose numbers are in `takes_failing`, counted
     /// from 0 in each source. A source gives at most `most` bytes in a call.
     pub fn new(

@@ -40,8 +40,9 @@ impl Model for MemSink {
 }
 
 impl MemSink {
-    /// An empty sink with room for `room` bytes, whose memory is taken here. The calls of `give`
-    /// whose numbers are in `failing`, counted from 0, fail.
+    /// An empty sink with room for `room` bytes, whose memory is taken here, and which takes at
+    /// most `most` bytes in a call. The calls of `give` whose numbers are in `failing`, counted
+    /// from 0, fail.
     pub fn new(alloc: Global, most: usize, failing: Vec<u64>, room: usize) -> Result<MemSink, NoMem>
         requires { 1 ≤ most }
         ensures { IfOk result (λ sink. sink ≡ new_sink most failing.items room) }

@@ -37,8 +37,8 @@ impl Model for MemSource {
 }
 
 impl MemSource {
-    /// A source of these bytes. The calls of `take` whose numbers are in `failing`, counted from
-    /// 0, fail.
+    /// A source of these bytes that gives at most `most` of them in a call. The calls of `take`
+    /// whose numbers are in `failing`, counted from 0, fail.
     pub fn new(bytes: Vec<u8>, most: usize, failing: Vec<u64>) -> MemSource
         requires { 1 ≤ most }
         ensures { result ≡ new_source bytes.items most failing.items }

@@ -11,7 +11,8 @@ use std::io;
 use std::io::{Read, Write};
 use std::marker::Model;
 
-/// A source over a reader, as a file. Contracts see how many of its calls have failed.
+/// A source over a reader, as a file. Contracts see how many of its calls have failed. A read that
+/// was interrupted is a fault like any other.
 #[derive(Drop)]
 pub struct RealSource<R> {
     reader: R,

@@ -1,2 +1,3 @@
-pub mod Ring
+pub mod Interpolation
 pub mod Prime
+pub mod Ring

@@ -1,2 +1,2 @@
+pub mod LinearValues
 pub mod Values
-pub mod Interpolation

@@ -3,23 +3,20 @@ use Rattle.std.proofs.Common.{ℕ, ◌≡◌, arith, refl}
 use Rattle.blic_field.specs.Field.{add, mul, neg, sub, or, blend}
 use Rattle.blic_field.proofs.Ring.{ring}
 use Rattle.blic_poly2.specs.declared.linear.Lin.{Lin}
-use Rattle.blic_poly2.specs.declared.poly.Poly2.{Poly2}
-use Rattle.blic_poly2.specs.Poly.{at, lin_at, reduced_at}
-
-pub at-def : (p : Poly2) (x : ℕ) → at p x ≡ add p.c0 (add (mul p.c1 x) (mul p.c2 (mul x x)))
-unfolding at
-at-def p x = refl
+use Rattle.blic_field.specs.Quadratic.{Quadratic, at}
+use Rattle.blic_field.proofs.Interpolation.{at-def}
+use Rattle.blic_poly2.specs.Poly.{lin_at, reduced_at}
 
 pub lin_at-def : (a : Lin) (x : ℕ) → lin_at a x ≡ add a.c0 (mul a.c1 x)
 unfolding lin_at
 lin_at-def a x = refl
 
-pub reduced_at-def : (p : Poly2) (s : ℕ) → reduced_at p s ≡ blend s (at p 0) (at p 1)
+pub reduced_at-def : (p : Quadratic) (s : ℕ) → reduced_at p s ≡ blend s (at p 0) (at p 1)
 unfolding reduced_at
 reduced_at-def p s = refl
 
 -- by Horner's rule
-pub horner : (p : Poly2) (x : ℕ) → add p.c0 (mul (add p.c1 (mul p.c2 x)) x) ≡ at p x
+pub horner : (p : Quadratic) (x : ℕ) → add p.c0 (mul (add p.c1 (mul p.c2 x)) x) ≡ at p x
 horner p x = simp (at-def, ring) (omega arith)
 
 -- a blend in one product
@@ -27,18 +24,18 @@ pub blend_by_difference : (s u w : ℕ) → add u (mul s (sub w u)) ≡ blend s 
 blend_by_difference s u w = simp ring (omega arith)
 
 -- the reduced value in one product
-pub reduced_by_sum : (p : Poly2) (s : ℕ) → add p.c0 (mul s (add p.c1 p.c2)) ≡ reduced_at p s
+pub reduced_by_sum : (p : Quadratic) (s : ℕ) → add p.c0 (mul s (add p.c1 p.c2)) ≡ reduced_at p s
 reduced_by_sum p s = simp (reduced_at-def, at-def, ring) (omega arith)
 
-pub reduced_at-zero : (p : Poly2) → reduced_at p 0 ≡ at p 0
+pub reduced_at-zero : (p : Quadratic) → reduced_at p 0 ≡ at p 0
 reduced_at-zero p = simp (reduced_at-def, at-def, ring) (omega arith)
 
-pub reduced_at-one : (p : Poly2) → reduced_at p 1 ≡ at p 1
+pub reduced_at-one : (p : Quadratic) → reduced_at p 1 ≡ at p 1
 reduced_at-one p = simp (reduced_at-def, at-def, ring) (omega arith)
 
 -- blending is pointwise
 
-pub at-blend : (s : ℕ) (p q : Poly2) (x : ℕ)
+pub at-blend : (s : ℕ) (p q : Quadratic) (x : ℕ)
     → at (record { c0 = blend s p.c0 q.c0; c1 = blend s p.c1 q.c1; c2 = blend s p.c2 q.c2 }) x ≡ blend s (at p x) (at q x)
 at-blend s p q x = simp (at-def, ring) (omega arith)
 
@@ -53,7 +50,7 @@ pub at-product : (a b : Lin) (x : ℕ)
 at-product a b x = simp (at-def, lin_at-def, ring) (omega arith)
 
 -- the sum of two linear ones less a polynomial
-pub at-sum_less : (a b : Lin) (p : Poly2) (x : ℕ)
+pub at-sum_less : (a b : Lin) (p : Quadratic) (x : ℕ)
     → at (record { c0 = sub (add a.c0 b.c0) p.c0; c1 = sub (add a.c1 b.c1) p.c1; c2 = neg p.c2 }) x ≡ sub (add (lin_at a x) (lin_at b x)) (at p x)
 at-sum_less a b p x = simp (at-def, lin_at-def, ring) (omega arith)
 

@@ -1,19 +1,19 @@
 // The laws of small polynomials, over the definitions that their calls cite.
 ghost use Rattle.blic_field.specs.Field.{add, blend, minus_one, modulus, mul, neg, or, sub};
-ghost use Rattle.blic_poly2.specs.Poly.{at, HasElements, interpolate, lin_at, LinHasElements, reduced_at};
+ghost use Rattle.blic_field.specs.Quadratic.{at, HasElements, interpolate, Quadratic};
+ghost use Rattle.blic_poly2.specs.Poly.{lin_at, LinHasElements, reduced_at};
 ghost use Rattle.blic_poly2.specs.declared.linear.Lin.{Lin};
-ghost use Rattle.blic_poly2.specs.declared.poly.Poly2.{Poly2};
 ghost use Rattle.std.specs.Prelude.{◌≡◌, ◌<◌, ℕ};
 
 /// A polynomial is given by its values at 0, 1 and -1, and a linear one by those at 0 and 1.
 pub fn interpolation_law()
-    ensures back { (p : Poly2) → HasElements p → interpolate (at p) ≡ p }
+    ensures back { (p : Quadratic) → HasElements p → interpolate (at p) ≡ p }
     ensures elements { (f : ℕ → ℕ) → f 0 < modulus → HasElements (interpolate f) }
 
     // where f is a polynomial, it is the one through its values
-    ensures values { (f : ℕ → ℕ) (p : Poly2) → ((x : ℕ) → x < modulus → f x ≡ at p x)
+    ensures values { (f : ℕ → ℕ) (p : Quadratic) → ((x : ℕ) → x < modulus → f x ≡ at p x)
         → (x : ℕ) → x < modulus → at (interpolate f) x ≡ f x }
-    ensures unique { (p q : Poly2) → HasElements p → HasElements q
+    ensures unique { (p q : Quadratic) → HasElements p → HasElements q
         → at p 0 ≡ at q 0 → at p 1 ≡ at q 1 → at p minus_one ≡ at q minus_one → p ≡ q }
     ensures linear_unique { (a b : Lin) → LinHasElements a → LinHasElements b
         → lin_at a 0 ≡ lin_at b 0 → lin_at a 1 ≡ lin_at b 1 → a ≡ b }
@@ -21,7 +21,7 @@ pub fn interpolation_law()
 
 /// Blending the coefficients blends the value at each point.
 pub fn blending_law()
-    ensures poly { (s : ℕ) (p q : Poly2) (x : ℕ)
+    ensures poly { (s : ℕ) (p q : Quadratic) (x : ℕ)
         → at (record { c0 = blend s p.c0 q.c0; c1 = blend s p.c1 q.c1; c2 = blend s p.c2 q.c2 }) x
         ≡ blend s (at p x) (at q x) }
     ensures linear { (s : ℕ) (a b : Lin) (x : ℕ)
@@ -31,10 +31,10 @@ pub fn blending_law()
 
 /// Reducing keeps the values at 0 and 1, and is linear in the point.
 pub fn reducing_law()
-    ensures blend { (p : Poly2) (s : ℕ) → reduced_at p s ≡ blend s (at p 0) (at p 1) }
-    ensures zero { (p : Poly2) → reduced_at p 0 ≡ at p 0 }
-    ensures one { (p : Poly2) → reduced_at p 1 ≡ at p 1 }
-    ensures linear { (p : Poly2) (s : ℕ) → reduced_at p s ≡ add p.c0 (mul s (add p.c1 p.c2)) }
+    ensures blend { (p : Quadratic) (s : ℕ) → reduced_at p s ≡ blend s (at p 0) (at p 1) }
+    ensures zero { (p : Quadratic) → reduced_at p 0 ≡ at p 0 }
+    ensures one { (p : Quadratic) → reduced_at p 1 ≡ at p 1 }
+    ensures linear { (p : Quadratic) (s : ℕ) → reduced_at p s ≡ add p.c0 (mul s (add p.c1 p.c2)) }
 {}
 
 /// The product and the or of two linear polynomials are of degree at most two, and are taken at each point.

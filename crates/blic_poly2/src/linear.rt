@@ -1,6 +1,7 @@
 // Polynomials of degree at most one.
 ghost use Rattle.blic_field.specs.Field.{add, blend, mul, or};
-ghost use Rattle.blic_poly2.specs.Poly.{at, HasElements, lin_at, LinHasElements};
+ghost use Rattle.blic_field.specs.Quadratic.{at, HasElements};
+ghost use Rattle.blic_poly2.specs.Poly.{lin_at, LinHasElements};
 ghost use Rattle.std.specs.Prelude.{◌≡◌, ◌+◌, ◌≤◌, ℕ};
 
 use crate::poly::Poly2;

@@ -1,11 +1,13 @@
 // Polynomials of degree at most two.
 ghost use Rattle.blic_field.specs.Field.{blend};
-ghost use Rattle.blic_poly2.specs.Poly.{at, HasElements, reduced_at};
+ghost use Rattle.blic_field.specs.Quadratic.{at, HasElements};
+ghost use Rattle.blic_poly2.specs.Poly.{reduced_at};
 ghost use Rattle.std.specs.Prelude.{◌≡◌, ◌+◌, ◌≤◌, ℕ};
 
 use crate::linear::blended;
 use blic_basic::Steps;
 use blic_field::Fe;
+use std::marker::Model;
 use std::sync::ledger::Ledger;
 
 /// The polynomial `c0 + c1*X + c2*X*X`.
@@ -16,9 +18,18 @@ pub struct Poly2 {
     pub c2: Fe,
 }
 
+impl Model for Poly2 {
+    ghost use Rattle.blic_field.specs.Quadratic.{Quadratic};
+
+    ghost Value = { Quadratic };
+
+    ghost view = { λ p. record { c0 = p.c0; c1 = p.c1; c2 = p.c2 } };
+
+    ghost inverse = { λ q. record { c0 = q.c0; c1 = q.c1; c2 = q.c2 } };
+}
+
 impl Poly2 {
     /// The value at `x`. At most two products.
-    #[tactic(auto, using(crate::proofs::Values::horner))]
     pub fn at<L: Ledger>(&self, x: Fe, steps: &mut Steps<L>) -> Fe
         ensures value { result ≡ at self.now x }
         ensures at_most { steps.new ≤ steps.old + 2 }
@@ -29,7 +40,6 @@ impl Poly2 {
     }
 
     /// The value at `s` of the line through the values at 0 and 1. At most one product.
-    #[tactic(auto, using(crate::proofs::Values::reduced_by_sum))]
     pub fn reduced_at<L: Ledger>(&self, s: Fe, steps: &mut Steps<L>) -> Fe
         ensures value { result ≡ reduced_at self.now s }
         ensures at_most { steps.new ≤ steps.old + 1 }

@@ -1,6 +1,7 @@
 // Values that Python's integers gave, at 0, 1 and -1 among others; a caller that counts and one that doesn't.
 ghost use Rattle.blic_field.specs.Field.{add};
-ghost use Rattle.blic_poly2.specs.Poly.{at, reduced_at};
+ghost use Rattle.blic_field.specs.Quadratic.{at};
+ghost use Rattle.blic_poly2.specs.Poly.{reduced_at};
 ghost use Rattle.std.specs.Prelude.{◌≡◌, ◌+◌, ◌<◌, ◌≤◌, ℕ};
 
 use super::*;

@@ -7,7 +7,7 @@ use Rattle.std.proofs.lemmas.List.{length-map}
 use Rattle.std.proofs.lemmas.Map.Steps.{length-le_from_distinct_below}
 use Rattle.blic_model.specs.declared.prefix.Bound.{Bound}
 use Rattle.blic_model.specs.Limits.{is_bound, are_distinct}
-use Rattle.blic_qdimacs.proofs.WordLaws.{and_split, false_not_true, SmallBounds}
+use Rattle.blic_qdimacs.proofs.Sizes.{and_split, false_not_true, SmallBounds}
 
 abbrev vars_of : List Bound → List ℕ
 vars_of bounds = map (λ b. b.var) bounds

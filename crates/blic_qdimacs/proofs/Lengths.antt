@@ -11,7 +11,7 @@ use Rattle.blic_model.specs.Formula.{PrenexFormula}
 use Rattle.blic_model.specs.Limits.{IsFormula}
 use Rattle.blic_qdimacs.specs.Text.{Run, header_text, run_text, runs_of, with_bound, literal_text, clause_text, canonical_text}
 use Rattle.blic_qdimacs.proofs.Small.{formula_is_small}
-use Rattle.blic_qdimacs.proofs.WordLaws.{SmallBounds, SmallLiterals, SmallClauses}
+use Rattle.blic_qdimacs.proofs.Sizes.{SmallBounds, SmallLiterals, SmallClauses}
 
 length-digits : (v : ℕ) → v ≤ 65535 → length (decimal v) ≤ 5
 length-digits v few = length-decimal-le 5 v (omega arith) (omega arith) (omega arith)

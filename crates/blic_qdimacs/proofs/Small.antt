@@ -8,7 +8,7 @@ use Rattle.blic_model.specs.declared.formula.Lit.{Lit}
 use Rattle.blic_model.specs.Formula.{PrenexFormula}
 use Rattle.blic_model.specs.Limits.{IsFormula, is_bound, are_in_range, are_distinct, is_closed}
 use Rattle.blic_qdimacs.proofs.Entries.{few_entries}
-use Rattle.blic_qdimacs.proofs.WordLaws.{and_split, false_not_true, SmallBounds, SmallLiterals, SmallClauses, IsSmall}
+use Rattle.blic_qdimacs.proofs.Sizes.{and_split, false_not_true, SmallBounds, SmallLiterals, SmallClauses, IsSmall}
 
 below : (v n : ℕ) → (nat_lt 0 v && nat_le v n) ≡ true → (0 < v) × (v ≤ n)
 below v n h = let parts = and_split (nat_lt 0 v) (nat_le v n) h in (positive v parts.0, at_most v n parts.1)
@@ -31,7 +31,7 @@ or_split true c h = inl refl
 or_split false c h = inr h
 
 -- a variable that is bound is in range
-bound_below : (n v : ℕ) (bounds : List Bound) → are_in_range n bounds ≡ true → is_bound bounds v ≡ true → (0 < v) × (v ≤ n)
+pub bound_below : (n v : ℕ) (bounds : List Bound) → are_in_range n bounds ≡ true → is_bound bounds v ≡ true → (0 < v) × (v ≤ n)
 bound_below n v [] h k = absurd (false_not_true k)
 bound_below n v (b ∷ bounds) h k =
     let parts = and_split (nat_lt 0 b.var && nat_le b.var n) (are_in_range n bounds) h in

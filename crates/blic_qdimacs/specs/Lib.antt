@@ -1,7 +1,14 @@
-pub mod Canonical
+pub mod Binding
 pub mod Header
-pub mod Judging
+pub mod Items
+pub mod Judged
+pub mod Lines
+pub mod Machine
+pub mod Meaning
 pub mod Reading
+pub mod Sound
+pub mod Tables
 pub mod Text
+pub mod View
 pub mod Words
 pub mod Writing

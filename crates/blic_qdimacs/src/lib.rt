@@ -1,13 +1,18 @@
-//! Formulas from and to their one canonical text.
+//! Formulas from QDIMACS, and to their one canonical text.
 #![tactic(auto)]
 
+mod byte_reader;
+mod error;
+mod free;
+mod items;
 mod laws;
 mod reader;
-mod words;
+mod seen;
 mod writer;
 
-pub use laws::canonical_law;
-pub use reader::{ReadError, read};
+pub use error::ReadError;
+pub use laws::{canonical_law, canonical_text_law, judgement_law};
+pub use reader::read;
 pub use writer::canonical;
 
 #[cfg(test)]

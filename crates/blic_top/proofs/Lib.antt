@@ -1,2 +1,5 @@
 mod Clauses
+mod Parsing
+mod Pushed
+mod Saying
 mod Solving

@@ -1,12 +1,21 @@
 -- The status and the text of each outcome.
 use Rattle.std.specs.Prelude.{ℕ, cond, List, [], ◌∷◌, ◌++◌, codes, decimal}
+use Rattle.blic_qdimacs.specs.declared.error.ReadError.{ReadError}
+use Rattle.blic_qdimacs.specs.declared.error.ReadError.TheVariants as errors
 use Rattle.blic_top.specs.declared.outcome.Outcome.{Outcome}
-use Rattle.blic_top.specs.declared.outcome.Outcome.TheVariants.{Usage, NotPlain, ReadFault, TooManyVariables, NoMemory, Solved}
+use Rattle.blic_top.specs.declared.outcome.Outcome.TheVariants.{Usage, NotRead, TooManyClaims, TooManyPoints, TooManyVariables, NoMemory, Solved}
+
+-- 3 for a fault, 9 for want of memory, 2 for a refused file
+abbrev pub read_status : ReadError → ℕ
+read_status errors.Fault = 3
+read_status errors.NoMem = 9
+read_status _ = 2
 
 abbrev pub status_of : Outcome → ℕ
 status_of Usage = 1
-status_of NotPlain = 2
-status_of ReadFault = 3
+status_of (NotRead error) = read_status error
+status_of (TooManyClaims node count) = 8
+status_of (TooManyPoints count) = 8
 status_of (TooManyVariables count) = 8
 status_of NoMemory = 9
 status_of (Solved truth vars clauses) = cond truth 10 20
@@ -15,10 +24,33 @@ status_of (Solved truth vars clauses) = cond truth 10 20
 abbrev pub line_end : List ℕ
 line_end = 10 ∷ []
 
+-- the name of the refusal and its line
+abbrev pub refused_at : List ℕ → ℕ → List ℕ
+refused_at name line = codes "c refused " ++ name ++ codes " line " ++ decimal line ++ line_end
+
+abbrev pub refusal_text : ReadError → List ℕ
+refusal_text (errors.NoProblemLine line) = refused_at (codes "NoProblemLine") line
+refusal_text (errors.BadProblemLine line) = refused_at (codes "BadProblemLine") line
+refusal_text (errors.BadToken line) = refused_at (codes "BadToken") line
+refusal_text (errors.NumberTooLarge line) = refused_at (codes "NumberTooLarge") line
+refusal_text (errors.VariableTooLarge line) = refused_at (codes "VariableTooLarge") line
+refusal_text (errors.BoundTwice line) = refused_at (codes "BoundTwice") line
+refusal_text (errors.SetAfterClause line) = refused_at (codes "SetAfterClause") line
+refusal_text (errors.TooManyClauses line) = refused_at (codes "TooManyClauses") line
+refusal_text (errors.TooFewClauses line) = refused_at (codes "TooFewClauses") line
+refusal_text (errors.Unended line) = refused_at (codes "Unended") line
+refusal_text (errors.TooManyVariables line) = refused_at (codes "TooManyVariables") line
+refusal_text (errors.TooManyLiterals line) = refused_at (codes "TooManyLiterals") line
+refusal_text (errors.ClauseLimit line) = refused_at (codes "ClauseLimit") line
+refusal_text (errors.TooLong line) = refused_at (codes "TooLong") line
+refusal_text errors.Fault = codes "c read fault" ++ line_end
+refusal_text errors.NoMem = codes "c want of memory" ++ line_end
+
 abbrev pub text_of : Outcome → List ℕ
 text_of Usage = codes "usage: blic solve FILE, certify FILE, verify FILE ADDR or exercise N" ++ line_end
-text_of NotPlain = codes "c refused NotPlain line 0" ++ line_end
-text_of ReadFault = codes "c read fault" ++ line_end
+text_of (NotRead error) = refusal_text error
+text_of (TooManyClaims node count) = codes "c limit claims at " ++ decimal node ++ codes " count " ++ decimal count ++ line_end
+text_of (TooManyPoints count) = codes "c limit points count " ++ decimal count ++ line_end
 text_of (TooManyVariables count) = codes "c limit variables count " ++ decimal count ++ line_end
 text_of NoMemory = codes "c want of memory" ++ line_end
 text_of (Solved truth vars clauses) =

@@ -4,6 +4,7 @@
 mod cases;
 mod outcome;
 mod program;
+mod words;
 
 pub use cases::by_cases;
 pub use outcome::Outcome;

@@ -2,6 +2,7 @@
 ghost use Rattle.std.specs.Prelude.{◌≡◌, ◌++◌, IfOk, OnOk, string_bytes};
 ghost use Rattle.blic_top.specs.Outcome.{status_of, text_of};
 
+use blic_qdimacs::ReadError;
 use std::alloc::{AllocError, Global};
 use std::fmt::Write;
 
@@ -10,10 +11,12 @@ use std::fmt::Write;
 pub enum Outcome {
     /// The words don't fit.
     Usage,
-    /// The file's bytes are no canonical text of a formula within the limits.
-    NotPlain,
-    /// The file could not be opened or read.
-    ReadFault,
+    /// No formula was read: the file's first refusal, a fault of the files, or want of memory.
+    NotRead(ReadError),
+    /// The circuit's greatest node with too many claims, and how many it has.
+    TooManyClaims(u32, u64),
+    /// The circuit has that many points, which are too many.
+    TooManyPoints(u64),
     /// The prefix has that many entries, more than are solved by cases.
     TooManyVariables(usize),
     /// Memory ran out.
@@ -29,8 +32,11 @@ impl Outcome {
     {
         match self {
             Outcome::Usage => 1,
-            Outcome::NotPlain => 2,
-            Outcome::ReadFault => 3,
+            Outcome::NotRead(ReadError::Fault) => 3,
+            Outcome::NotRead(ReadError::NoMem) => 9,
+            Outcome::NotRead(_) => 2,
+            Outcome::TooManyClaims(_, _) => 8,
+            Outcome::TooManyPoints(_) => 8,
             Outcome::TooManyVariables(_) => 8,
             Outcome::NoMemory => 9,
             Outcome::Solved(true, _, _) => 10,
@@ -47,8 +53,9 @@ impl Outcome {
                 alloc,
                 "usage: blic solve FILE, certify FILE, verify FILE ADDR or exercise N\n",
             ),
-            Outcome::NotPlain => String::from_str(alloc, "c refused NotPlain line 0\n"),
-            Outcome::ReadFault => String::from_str(alloc, "c read fault\n"),
+            Outcome::NotRead(error) => refusal_line(alloc, error),
+            Outcome::TooManyClaims(node, count) => claims_line(alloc, node, count),
+            Outcome::TooManyPoints(count) => format!(in alloc; "c limit points count {count}\n"),
             Outcome::TooManyVariables(count) => {
                 format!(in alloc; "c limit variables count {count}\n")
             }
@@ -74,5 +81,64 @@ fn push_answer(line: &mut String, truth: bool, vars: u32, clauses: u32) -> Resul
         write!(line, "s cnf 1 {vars} {clauses}\n")
     } else {
         write!(line, "s cnf 0 {vars} {clauses}\n")
+    }
+}
+
+// The node with too many claims, and their number.
+fn claims_line(alloc: Global, node: u32, count: u64) -> Result<String, AllocError>
+    ensures { IfOk result (λ line. string_bytes line ≡ text_of (Outcome.TooManyClaims node count)) }
+{
+    let mut line = String::new(alloc);
+    push_claims(&mut line, node, count)?;
+    Ok(line)
+}
+
+fn push_claims(line: &mut String, node: u32, count: u64) -> Result<(), AllocError>
+    ensures { OnOk result (string_bytes line.new ≡ string_bytes line.old ++ text_of (Outcome.TooManyClaims node count)) }
+{
+    write!(line, "c limit claims at {node}")?;
+    write!(line, " count {count}\n")?;
+    Ok(())
+}
+
+// What is said where no formula was read.
+fn refusal_line(alloc: Global, error: ReadError) -> Result<String, AllocError>
+    ensures { IfOk result (λ line. string_bytes line ≡ text_of (Outcome.NotRead error)) }
+{
+    match error {
+        ReadError::NoProblemLine { line } => format!(in alloc;
+            "c refused NoProblemLine line {line}\n"
+        ),
+        ReadError::BadProblemLine { line } => format!(in alloc;
+            "c refused BadProblemLine line {line}\n"
+        ),
+        ReadError::BadToken { line } => format!(in alloc; "c refused BadToken line {line}\n"),
+        ReadError::NumberTooLarge { line } => format!(in alloc;
+            "c refused NumberTooLarge line {line}\n"
+        ),
+        ReadError::VariableTooLarge { line } => format!(in alloc;
+            "c refused VariableTooLarge line {line}\n"
+        ),
+        ReadError::BoundTwice { line } => format!(in alloc; "c refused BoundTwice line {line}\n"),
+        ReadError::SetAfterClause { line } => format!(in alloc;
+            "c refused SetAfterClause line {line}\n"
+        ),
+        ReadError::TooManyClauses { line } => format!(in alloc;
+            "c refused TooManyClauses line {line}\n"
+        ),
+        ReadError::TooFewClauses { line } => format!(in alloc;
+            "c refused TooFewClauses line {line}\n"
+        ),
+        ReadError::Unended { line } => format!(in alloc; "c refused Unended line {line}\n"),
+        ReadError::TooManyVariables { line } => format!(in alloc;
+            "c refused TooManyVariables line {line}\n"
+        ),
+        ReadError::TooManyLiterals { line } => format!(in alloc;
+            "c refused TooManyLiterals line {line}\n"
+        ),
+        ReadError::ClauseLimit { line } => format!(in alloc; "c refused ClauseLimit line {line}\n"),
+        ReadError::TooLong { line } => format!(in alloc; "c refused TooLong line {line}\n"),
+        ReadError::Fault => String::from_str(alloc, "c read fault\n"),
+        ReadError::NoMem => String::from_str(alloc, "c want of memory\n"),
     }
 }

@@ -4,14 +4,16 @@ ghost use Rattle.std.specs.Io.KnownBytes.{append_known};
 ghost use Rattle.blic_basic.specs.Outside.{Rose};
 ghost use Rattle.blic_top.specs.Words.{solve_file};
 ghost use Rattle.blic_top.specs.Outcome.{status_of, text_of};
-ghost use Rattle.blic_top.specs.Means.{Means, SaysOfFile, SaysOfFormula};
-ghost use Rattle.blic_top.specs.Ends.{Says, IsTold, Solves, Limits, Refuses, IsOrNoMemory, OutcomeCounts};
+ghost use Rattle.blic_top.specs.Means.{HasSmallCircuit, Means, SaysOfFile, SaysOfFormula};
+ghost use Rattle.blic_top.specs.Ends.{Says, IsTold, Solves, LimitsVariables, LimitsCircuit, Refuses, IsOrNoMemory, OutcomeCounts};
 
 use crate::cases::by_cases;
 use crate::outcome::Outcome;
+use crate::words::file_of;
 use blic_basic::{Files, Opened, Sink, Wrote, write_all_counted};
-use blic_model::Formula;
-use blic_qdimacs::{ReadError, canonical_law, read};
+use blic_circuit::build;
+use blic_model::{CircuitError, Formula};
+use blic_qdimacs::{ReadError, read};
 use std::alloc::Global;
 
 /// At most so many entries of a prefix are solved by cases.
@@ -20,16 +22,16 @@ const MOST_ENTRIES: usize = 20;
 /// Does all that the program does with its words, which are without its name. Answers the exit
 /// status. Every line goes to `out`.
 ///
-/// `solve FILE` reads the formula of a file in canonical text and prints its truth, as
+/// `solve FILE` reads the formula of a QDIMACS file and prints its truth, as
 /// `s cnf 1 V C` with status 10 or `s cnf 0 V C` with status 20.
 ///
 /// | status | where |
 /// |---|---|
 /// | 1 | the words don't fit |
-/// | 2 | the file is no canonical text of a formula within the limits |
+/// | 2 | the file spells no formula within the limits |
 /// | 3 | a call on the files or on the opened file failed |
 /// | 4 | a call on `out` failed; it holds a front of what was to be printed |
-/// | 8 | the prefix has more than 20 entries |
+/// | 8 | the formula's circuit passes a limit, or else the prefix has more than 20 entries |
 /// | 9 | memory ran out |
 pub fn run<F: Files, O: Sink>(alloc: Global, words: &Vec<String>, files: &mut F, out: &mut O) -> u8
     // What is told has come, and what is printed is its text.
@@ -43,12 +45,13 @@ pub fn run<F: Files, O: Sink>(alloc: Global, words: &Vec<String>, files: &mut F,
     ensures usage { ¬ (Rose (O.faults out.old) (O.faults out.new)) → solve_file words.now.items ≡ None → IsOrNoMemory result 1 }
     ensures solves { ¬ (Rose (F.faults files.old) (F.faults files.new)) → ¬ (Rose (O.faults out.old) (O.faults out.new))
         → Solves (solve_file words.now.items) (F.files files.old) result }
-    ensures limits { ¬ (Rose (F.faults files.old) (F.faults files.new)) → ¬ (Rose (O.faults out.old) (O.faults out.new))
-        → Limits (solve_file words.now.items) (F.files files.old) result }
+    ensures limits_variables { ¬ (Rose (F.faults files.old) (F.faults files.new)) → ¬ (Rose (O.faults out.old) (O.faults out.new))
+        → LimitsVariables (solve_file words.now.items) (F.files files.old) result }
+    ensures limits_circuit { ¬ (Rose (F.faults files.old) (F.faults files.new)) → ¬ (Rose (O.faults out.old) (O.faults out.new))
+        → LimitsCircuit (solve_file words.now.items) (F.files files.old) result }
     ensures refuses { ¬ (Rose (F.faults files.old) (F.faults files.new)) → ¬ (Rose (O.faults out.old) (O.faults out.new))
         → Refuses (solve_file words.now.items) (F.files files.old) result }
 {
-    canonical_law();
     perform(alloc, words, files, out)
 }
 
@@ -67,18 +70,10 @@ fn decide<F: Files>(alloc: Global, words: &[String], files: &mut F) -> Outcome
     ensures means { Means (solve_file words.now) (F.files files.old) result }
     ensures cause { OutcomeCounts (F.faults files.old) (F.faults files.new) result }
 {
-    match file_of(words) {
-        Some(name) => solve(alloc, name.as_str(), files),
-        None => Outcome::Usage,
-    }
-}
-
-fn file_of(words: &[String]) -> Option<&String>
-    ensures { option_map (λ file. string_bytes file.now) result ≡ solve_file words.now }
-{
-    match words {
-        [command, file] if command.as_str() == "solve" => Some(file),
-        _ => None,
+    match file_of(alloc, words) {
+        Ok(Some(name)) => solve(alloc, name, files),
+        Ok(None) => Outcome::Usage,
+        Err(_) => Outcome::NoMemory,
     }
 }
 
@@ -88,21 +83,32 @@ fn solve<F: Files>(alloc: Global, name: &str, files: &mut F) -> Outcome
     ensures cause { OutcomeCounts (F.faults files.old) (F.faults files.new) result }
 {
     match files.open_file(name) {
-        Opened::Failed => Outcome::ReadFault,
+        Opened::Failed => Outcome::NotRead(ReadError::Fault),
         Opened::Source(mut source) => {
             let formula = read(alloc, &mut source);
             files.close_file(source);
             match formula {
                 Ok(formula) => solve_formula(alloc, &formula),
-                Err(ReadError::NotPlain) => Outcome::NotPlain,
-                Err(ReadError::Fault) => Outcome::ReadFault,
-                Err(ReadError::NoMem) => Outcome::NoMemory,
+                Err(error) => Outcome::NotRead(error),
             }
         }
     }
 }
 
+// Solves a formula whose circuit is within its limits.
 fn solve_formula(alloc: Global, formula: &Formula) -> Outcome
+    ensures { SaysOfFormula formula.now result }
+{
+    match build(alloc, formula, 0, 1) {
+        Ok(_) => solve_by_cases(alloc, formula),
+        Err(CircuitError::TooManyClaims { node, claims }) => Outcome::TooManyClaims(node, claims),
+        Err(CircuitError::TooManyPoints { points }) => Outcome::TooManyPoints(points),
+        Err(CircuitError::NoMem) => Outcome::NoMemory,
+    }
+}
+
+fn solve_by_cases(alloc: Global, formula: &Formula) -> Outcome
+    requires { HasSmallCircuit formula.now }
     ensures { SaysOfFormula formula.now result }
 {
     let count = formula.prefix().len();

@@ -2,6 +2,8 @@
 use crate::run;
 use blic_basic::{Files, MemFile, MemFiles, MemSink, SureFiles, SureSink};
 use std::alloc::{AllocError, Global};
+use std::fmt::Write;
+use std::process::Abort;
 use std::test::Fail;
 
 fn words_of(alloc: Global, words: &[&str]) -> Result<Vec<String>, AllocError> {
@@ -30,60 +32,152 @@ fn files(
     Ok(MemFiles::new(alloc, files, 5, failing, takes_failing, 1).map_err(|_| "memory")?)
 }
 
-#[test]
-fn a_canonical_file_gets_its_truth_or_its_refusal(rt: HostRuntime) -> Result<(), Fail> {
-    let alloc = rt.alloc();
+// The text in which a slash stands for the end of a line, and a percent sign for a carriage return.
+fn lines_of(alloc: Global, text: &str) -> Result<Vec<u8>, AllocError> {
+    let mut bytes = Vec::new(alloc);
+    for byte in text.as_bytes() {
+        bytes.push(match *byte {
+            b'/' => b'\n',
+            b'%' => b'\r',
+            byte => byte,
+        })?;
+    }
+    Ok(bytes)
+}
+
+// Runs `solve` on the file, and asserts its status and its line.
+fn assert_solves(
+    rt: &impl Abort,
+    alloc: Global,
+    file: &[u8],
+    status: u8,
+    line: &str,
+) -> Result<(), Fail> {
     let words = words_of(alloc, &["solve", "f"])?;
-    let rows: [(&[u8], u8, &[u8]); 8] = [
-        (
-            b"p cnf 2 2\na 1 0\ne 2 0\n1 2 0\n-1 -2 0\n",
-            10,
-            b"s cnf 1 2 2\n",
-        ),
-        (
-            b"p cnf 2 2\ne 2 0\na 1 0\n1 2 0\n-1 -2 0\n",
-            20,
-            b"s cnf 0 2 2\n",
-        ),
-        (b"p cnf 0 0\n", 10, b"s cnf 1 0 0\n"),
-        (b"p cnf 1 1\n0\n", 20, b"s cnf 0 1 1\n"),
-        (b"p cnf 65535 0\n", 10, b"s cnf 1 65535 0\n"),
-        (b"p cnf 1 1\n1\n", 2, b"c refused NotPlain line 0\n"),
-        (
-            b"p cnf 21 1\ne 1 2 3 4 5 6 7 8 9 10 11 12 13 14 15 16 17 18 19 20 21 0\n1 0\n",
-            8,
-            b"c limit variables count 21\n",
-        ),
-        (
-            b"p cnf 20 1\ne 1 2 3 4 5 6 7 8 9 10 11 12 13 14 15 16 17 18 19 20 0\n1 0\n",
-            10,
-            b"s cnf 1 20 1\n",
-        ),
-    ];
-    for (text, status, line) in rows {
-        let mut out = sink(alloc, Vec::new(alloc), 100)?;
-        assert_eq!(rt;
-            run(alloc, &words, &mut SureFiles::new(text), &mut out),
-            status
-        );
-        assert_eq!(rt; out.bytes(), line);
-        assert_eq!(rt;
-            run(
-                alloc,
-                &words,
-                &mut SureFiles::new(text),
-                &mut SureSink::new()
-            ),
-            status
-        );
+    let mut out = sink(alloc, Vec::new(alloc), 100)?;
+    assert_eq!(rt;
+        run(alloc, &words, &mut SureFiles::new(file), &mut out),
+        status,
+        "{line}"
+    );
+    assert_eq!(rt; out.bytes(), lines_of(alloc, line)?.as_slice());
+    Ok(())
+}
+
+// Rows of a file, its status and its line, with a bar between them.
+fn assert_rows(rt: &impl Abort, alloc: Global, rows: &str) -> Result<(), Fail> {
+    for row in rows.lines() {
+        let (text, rest) = row.split_once('|').ok_or("a file and more")?;
+        let (status, line) = rest.split_once('|').ok_or("a status and a line")?;
+        let status = status.parse::<u8>().map_err(|_| "a status")?;
+        assert_solves(rt, alloc, lines_of(alloc, text)?.as_slice(), status, line)?;
     }
     Ok(())
 }
 
 #[test]
+fn a_file_that_spells_a_formula_gets_its_truth(rt: HostRuntime) -> Result<(), Fail> {
+    assert_rows(
+        &rt,
+        rt.alloc(),
+        "p cnf 2 2/a 1 0/e 2 0/1 2 0/-1 -2 0/|10|s cnf 1 2 2/
+p cnf 2 2/e 2 0/a 1 0/1 2 0/-1 -2 0/|20|s cnf 0 2 2/
+p cnf 2 2/a 1 0/1 2 0/-1 -2 0/|20|s cnf 0 2 2/
+p cnf 1 2/e 1 0/1 -1 0/1 1 0/|10|s cnf 1 1 2/
+p cnf 2 1%/e 1 2 0%/1%/c middle%/2 0%/|10|s cnf 1 2 1/
+cnf/p cnf 0 0/|10|s cnf 1 0 0/
+p cnf 1 1/0/|20|s cnf 0 1 1/
+p cnf 65535 0/|10|s cnf 1 65535 0/
+p cnf 21 1/e 1 2 3 4 5 6 7 8 9 10 11 12 13 14 15 16 17 18 19 20 21 0/1 0/|8|c limit variables count 21/
+p cnf 20 1/e 1 2 3 4 5 6 7 8 9 10 11 12 13 14 15 16 17 18 19 20 0/1 0/|10|s cnf 1 20 1/",
+    )
+}
+
+#[test]
+fn a_file_that_spells_none_gets_its_first_refusal(rt: HostRuntime) -> Result<(), Fail> {
+    assert_rows(
+        &rt,
+        rt.alloc(),
+        "|2|c refused NoProblemLine line 0/
+e 1 0/|2|c refused NoProblemLine line 1/
+p cnf 1/|2|c refused BadProblemLine line 1/
+p cnf 1 1%1 0|2|c refused BadProblemLine line 1/
+p cnf 1 1/1 x 0/|2|c refused BadToken line 2/
+p cnf 1 1/1 -0/|2|c refused BadToken line 2/
+p cnf 2 0/e -3 0/|2|c refused BadToken line 2/
+p cnf 1 1/1 0 c x/|2|c refused BadToken line 2/
+p cnf 1 1/2147483648 0/|2|c refused NumberTooLarge line 2/
+p cnf 2 0/e -2147483648 0/|2|c refused NumberTooLarge line 2/
+p cnf 65536 2147483648/|2|c refused NumberTooLarge line 1/
+p cnf 1 1/2 0/|2|c refused VariableTooLarge line 2/
+p cnf 2 1/e 1 2 0/a 1 0/1 0/|2|c refused BoundTwice line 3/
+p cnf 2 1/1 0/e 2 0/|2|c refused SetAfterClause line 3/
+p cnf 1 1/1 0/-1 0/|2|c refused TooManyClauses line 3/
+p cnf 1 1/0/0/|2|c refused TooManyClauses line 3/
+p cnf 1 2/1 0//c x/|2|c refused TooFewClauses line 2/
+p cnf 1 1/|2|c refused TooFewClauses line 1/
+p cnf 1 1/1/|2|c refused Unended line 2/
+p cnf 65536 0/|2|c refused TooManyVariables line 1/
+p cnf 1 1048577/|2|c refused ClauseLimit line 1/",
+    )
+}
+
+// One clause of 6,000 literals.
+fn long_clause(alloc: Global) -> Result<String, AllocError> {
+    let mut set = String::from_str(alloc, "p cnf 6000 1\ne")?;
+    let mut clause = String::new(alloc);
+    for var in 1..6001 {
+        write!(set, " {var}")?;
+        write!(clause, "{var} ")?;
+    }
+    set.push_str(" 0\n")?;
+    set.push_str(clause.as_str())?;
+    set.push_str("0\n")?;
+    Ok(set)
+}
+
+// 262,144 clauses of two literals over 600 variables, of which every other one is `1 2`.
+fn one_clause_again_and_again(alloc: Global) -> Result<String, AllocError> {
+    let mut text = String::from_str(alloc, "p cnf 600 262144\n")?;
+    for k in 0..131_072u32 {
+        let (first, second) = (k % 600 + 1, k / 600 + 3);
+        write!(text, "1 2 0\n{first} {second} 0\n")?;
+    }
+    Ok(text)
+}
+
+#[test]
+fn a_circuit_past_a_limit_is_refused_by_its_numbers(rt: HostRuntime) -> Result<(), Fail> {
+    let alloc = rt.alloc();
+    let points = long_clause(alloc)?;
+    assert_solves(
+        &rt,
+        alloc,
+        points.as_bytes(),
+        8,
+        "c limit points count 54002999/",
+    )?;
+    let claims = one_clause_again_and_again(alloc)?;
+    assert_solves(
+        &rt,
+        alloc,
+        claims.as_bytes(),
+        8,
+        "c limit claims at 2 count 131072/",
+    )
+}
+
+#[test]
 fn words_that_do_not_fit_get_the_usage_line(rt: HostRuntime) -> Result<(), Fail> {
     let alloc = rt.alloc();
-    let rows: [&[&str]; 4] = [&[], &["solve"], &["solve", "a", "b"], &["certify", "f"]];
+    let rows: [&[&str]; 6] = [
+        &[],
+        &["solve"],
+        &["solve", "a", "b"],
+        &["certify", "f"],
+        &["solve", "--help"],
+        &["solve", "f", "--nodes", "7"],
+    ];
     for row in rows {
         let words = words_of(alloc, row)?;
         let mut out = sink(alloc, Vec::new(alloc), 100)?;

@@ -1,4 +1,5 @@
-use Rattle.blic_poly2.proofs.Interpolation.{at-interpolate, HasElements-interpolate, interpolate-at, interpolate_unique, lin_unique}
+use Rattle.blic_field.proofs.Interpolation.{at-interpolate, HasElements-interpolate, interpolate-at, interpolate_unique}
+use Rattle.blic_poly2.proofs.LinearValues.{lin_unique}
 use Rattle.blic_poly2.proofs.laws.interpolation_law.Goals as goal
 
 pub returns : goal.returns

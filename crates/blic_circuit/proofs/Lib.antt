@@ -1,0 +1,7 @@
+pub mod Bounds
+pub mod Halves
+pub mod Levels
+pub mod Literals
+pub mod Numbering
+pub mod Standing
+pub mod Whole

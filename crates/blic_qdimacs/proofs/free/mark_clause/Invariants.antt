@@ -1,0 +1,11 @@
+use Rattle.std.proofs.Common.{◌≡◌, ◌<◌, ◌||◌, ◌==◌, ℕ, length, take}
+use Rattle.std.specs.List.{list_any}
+use Rattle.blic_qdimacs.specs.Tables.{is_marked}
+use Rattle.blic_qdimacs.proofs.free.mark_clause.Given as goal
+
+-- the literals so far are marked
+abbrev pub invariant-loop-literal : goal.invariant-loop-literal
+invariant-loop-literal l = record {
+  size : length l.marks ≡ length l.fn.marks;
+  marked : (v : ℕ) → v < length l.fn.marks → is_marked l.marks v ≡ (is_marked l.fn.marks v || list_any (λ m. m.var == v) (take l.literal-index l.clause));
+}

@@ -1,0 +1,63 @@
+-- From what the calls below answer to what may be said.
+use Rattle.std.proofs.Common.{◌≡◌, ◌≢◌, ℕ, List, Option, Some, None, refl, ◌⊎◌, inl, inr, subst}
+use Rattle.std.specs.Prelude.{IfSome, IsSomeAnd, Result, Ok, Err}
+use Rattle.blic_basic.specs.Opening.{Opens}
+use Rattle.blic_basic.specs.declared.files.Opened.TheVariants as opened
+use Rattle.blic_model.specs.Formula.{PrenexFormula}
+use Rattle.blic_qdimacs.specs.Meaning.{meaning}
+use Rattle.blic_qdimacs.specs.Reading.{Reads}
+use Rattle.blic_qdimacs.specs.declared.error.ReadError.{ReadError}
+use Rattle.blic_qdimacs.specs.declared.error.ReadError.TheVariants as errors
+use Rattle.blic_top.specs.Means.{Means, SaysOfFile, SaysOfFormula, MayRefuse, IsFileOf}
+use Rattle.blic_top.specs.Ends.{Says, IsTold}
+use Rattle.blic_top.specs.declared.outcome.Outcome.{Outcome}
+use Rattle.blic_top.specs.declared.outcome.Outcome.TheVariants.{Usage, NotRead, TooManyClaims, TooManyPoints, TooManyVariables, NoMemory, Solved}
+
+told_bytes : (told left : Option (List ℕ)) (P : List ℕ → Type 0) → IsSomeAnd told (λ bytes. left ≡ Some bytes) → IfSome left P → IsSomeAnd told P
+told_bytes None left P is_left holds = absurd is_left
+told_bytes (Some bytes) left P is_left holds = subst (λ o. IfSome o P) is_left holds
+
+-- what holds of the bytes of a source holds of those of the file that it was opened from
+pub of_source : {S : Type 0} (left : S → Option (List ℕ)) (faults : S → ℕ) (files : Option (List ℕ → Option (List ℕ))) (name : List ℕ) (s : S)
+    (P : List ℕ → Type 0) → Opens left faults files name (opened.Source s) → IfSome (left s) P → IfSome files (λ file. IsSomeAnd (file name) P)
+of_source left faults None name s P opens holds = tt
+of_source left faults (Some file) name s P opens holds = told_bytes (file name) (left s) P opens.0 holds
+
+-- what may be said of a formula may be said of its file
+pub of_formula : (files : Option (List ℕ → Option (List ℕ))) (name : List ℕ) (f : PrenexFormula) (outcome : Outcome) → IsFileOf f files name
+    → SaysOfFormula f outcome → SaysOfFile files name outcome
+of_formula files name f Usage is_file says = says
+of_formula files name f (NotRead error) is_file says = absurd says
+of_formula files name f (TooManyClaims k count) is_file says = (f, is_file, says)
+of_formula files name f (TooManyPoints count) is_file says = (f, is_file, says)
+of_formula files name f (TooManyVariables count) is_file says = (f, is_file, says)
+of_formula files name f NoMemory is_file says = tt
+of_formula files name f (Solved t vars clauses) is_file says = (f, is_file, says)
+
+as_refused : (told : Option (List ℕ)) (error : ReadError) → error ≢ errors.Fault → error ≢ errors.NoMem
+    → IsSomeAnd told (λ bytes. Reads (Err error) (meaning bytes)) → IsSomeAnd told (λ bytes. meaning bytes ≡ Err error)
+as_refused None error no_fault no_want reads = reads
+as_refused (Some bytes) error no_fault no_want reads = reads no_fault no_want
+
+refused_file : (files : Option (List ℕ → Option (List ℕ))) (name : List ℕ) (error : ReadError) → error ≢ errors.Fault → error ≢ errors.NoMem
+    → IfSome files (λ file. IsSomeAnd (file name) (λ bytes. Reads (Err error) (meaning bytes)))
+    → IfSome files (λ file. IsSomeAnd (file name) (λ bytes. meaning bytes ≡ Err error))
+refused_file None name error no_fault no_want reads = tt
+refused_file (Some file) name error no_fault no_want reads = as_refused (file name) error no_fault no_want reads
+
+-- an error of the reader may be said of the file
+pub of_error : (files : Option (List ℕ → Option (List ℕ))) (name : List ℕ) (error : ReadError)
+    → IfSome files (λ file. IsSomeAnd (file name) (λ bytes. Reads (Err error) (meaning bytes))) → MayRefuse files name error
+of_error files name errors.Fault reads = tt
+of_error files name errors.NoMem reads = tt
+of_error files name error reads = refused_file files name error (λ e. cc) (λ e. cc) reads
+
+no_memory : (words : Option (List ℕ)) (files : Option (List ℕ → Option (List ℕ))) → Means words files NoMemory
+no_memory None files = tt
+no_memory (Some name) files = tt
+
+-- what is told has come
+pub says_by : (words : Option (List ℕ)) (files : Option (List ℕ → Option (List ℕ))) (outcome : Outcome) (status : ℕ) (old new : Option (List ℕ))
+    → Means words files outcome → IsTold outcome status old new ⊎ IsTold NoMemory status old new → Says words files status old new
+says_by words files outcome status old new means told =
+    elim told [ inl whole ↦ (outcome, means, whole) | inr want ↦ (NoMemory, no_memory words files, want) ]

@@ -1,0 +1,5 @@
+use Rattle.blic_top.proofs.Saying.{says_by}
+use Rattle.blic_top.proofs.program.perform.Goals as goal
+
+pub returns-clause-says : goal.returns-clause-says
+returns-clause-says g c = says_by _ _ c.decide-outcome.result c.tell.result _ _ c.decide-outcome.ensures.means c.tell.ensures.told
