@@ -9,7 +9,7 @@ use Rattle.std.proofs.lemmas.List.{append-nil, append_assoc, length-append, leng
 use Rattle.std.proofs.lemmas.List.Sums.{prefix_len-le-length}
 use Rattle.std.proofs.lemmas.List.Elements.{filter-append}
 use Rattle.blic_model.specs.declared.level_lists.Stretch.{Stretch}
-use Rattle.blic_model.specs.LevelLists.{stretch, merged}
+use Rattle.blic_model.specs.LevelLists.{stretch, merged, put_in}
 use Rattle.blic_model.specs.Stretches.{lists_at, no_stretch, IsInside, AreInside, BeginsWith, IsAt, IsMergedUpTo}
 
 pub stretch_is : (xs : List ℕ) (s e : ℕ) → stretch xs s e ≡ take (e - s) (drop s xs)
@@ -269,3 +269,19 @@ list_read levels stretches lists k at view inside l r =
       subst (IsInside (length levels)) (sym read) (inside.each k m),
       sym (ap (λ ls. get_or ls k []) view) ∙ (list_at levels stretches k no_stretch m ∙ ap (λ s. stretch levels s.start s.end) (sym read)),
     )
+
+not_below_itself : (x : ℕ) → nat_lt x x ≡ false
+not_below_itself x = le-ltb x x (omega arith)
+
+-- a list merged with itself
+merged_itself : (xs : List ℕ) → merged xs xs ≡ xs
+merged_itself [] = refl
+merged_itself (x ∷ xs) =
+    ap (λ b. cond b (x ∷ merged xs (x ∷ xs)) (cond b (x ∷ put_in x (merged xs) xs) (x ∷ merged xs xs))) (not_below_itself x)
+    ∙ ap (λ ys. x ∷ ys) (merged_itself xs)
+
+-- and one stretch with the same
+pub merged_stretch : (levels : List ℕ) (left right : Stretch) → left.start ≡ right.start → left.end ≡ right.end
+    → stretch levels left.start left.end ≡ merged (stretch levels left.start left.end) (stretch levels right.start right.end)
+merged_stretch levels left right starts ends =
+    sym (ap₂ (λ (s e : ℕ). merged (stretch levels left.start left.end) (stretch levels s e)) (sym starts) (sym ends) ∙ merged_itself (stretch levels left.start left.end))

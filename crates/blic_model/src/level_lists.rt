@@ -1,5 +1,5 @@
 // Lists of levels that stand in one list.
-ghost use Rattle.std.specs.Prelude.{◌≡◌, ◌≤◌, ◌<◌, ◌+◌, ◌++◌, ◌∷◌, ◌==◌, ℕ, List, [], length, not, filter, IfOk, OnOk, slice_index, slice_index_or};
+ghost use Rattle.std.specs.Prelude.{◌≡◌, ◌≤◌, ◌<◌, ◌+◌, ◌++◌, ◌∷◌, ◌==◌, ℕ, List, [], length, not, true, filter, IfOk, OnOk, slice_index, slice_index_or};
 ghost use Rattle.std.specs.Prelude.{◌⊎◌};
 ghost use Rattle.std.specs.List.{position_or_len};
 ghost use Rattle.blic_model.specs.LevelLists.{stretch, merged};
@@ -168,13 +168,16 @@ fn copy_without(levels: &mut Vec<u32>, at: Stretch, left_out: u32) -> Result<(),
     Ok(())
 }
 
-// Two rising stretches in one, at the end.
+// Two rising stretches in one: a stretch that is both, or one at the end.
 fn merge(levels: &mut Vec<u32>, left: Stretch, right: Stretch) -> Result<Stretch, NoMem>
     requires left { IsInside (length levels.old.items) left }
     requires right { IsInside (length levels.old.items) right }
     ensures kept { BeginsWith levels.new.items levels.old.items }
     ensures made { IfOk result (λ s. IsAt levels.new.items s (merged (stretch levels.old.items left.start left.end) (stretch levels.old.items right.start right.end))) }
 {
+    if is_same(left, right) {
+        return Ok(left);
+    }
     let start = levels.len();
     let (i, j) = copy_merged(levels, left, right)?;
     copy(levels, i, left.end)?;
@@ -183,6 +186,12 @@ fn merge(levels: &mut Vec<u32>, left: Stretch, right: Stretch) -> Result<Stretch
         start,
         end: levels.len(),
     })
+}
+
+fn is_same(left: Stretch, right: Stretch) -> bool
+    ensures { result ≡ true → (left.start ≡ right.start) × (left.end ≡ right.end) }
+{
+    left.start == right.start && left.end == right.end
 }
 
 // Copies two rising stretches to the end, as one, up to the end of one of them; the answer says what is left of them.
