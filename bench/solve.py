@@ -36,7 +36,7 @@ def not_canonical(path):
 
 
 def twenty_entries(path):
-    """Twenty existential variables that must all be true: every assignment is tried, the right one last."""
+    """Twenty existential variables that must all be true."""
     with open(path, "w") as out:
         out.write("p cnf 20 20\ne " + " ".join(map(str, range(1, 21))) + " 0\n")
         for variable in range(20, 0, -1):

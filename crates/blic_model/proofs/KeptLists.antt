@@ -1,14 +1,13 @@
 -- The free levels that a circuit stores.
 use Rattle.std.proofs.Common.{arith, ℕ, ◌≡◌, ◌<◌, sym, ◌∙◌, ap, subst, List, [], length, get_or}
-use Rattle.std.specs.Prelude.{sum_by}
 use Rattle.blic_model.specs.declared.node.Node.{Node}
-use Rattle.blic_model.specs.Circuit.{OrderedCircuit, below, free}
+use Rattle.blic_model.specs.Circuit.{OrderedCircuit, free}
 use Rattle.blic_model.specs.Counts.{points}
 use Rattle.blic_model.specs.Shape.{IsShaped}
-use Rattle.blic_model.specs.CircuitTables.{HasLevels, IsKept, listed_points}
+use Rattle.blic_model.specs.CircuitTables.{IsTabled, HasLevels, IsKept}
 use Rattle.blic_model.specs.LevelLists.{free_lists}
 use Rattle.blic_model.proofs.FreeLists.{entry_of_lists, length_of_lists}
-use Rattle.blic_model.proofs.PointCounts.{AreShort, short_lists, few_free, points_listed}
+use Rattle.blic_model.proofs.FreeCounts.{few_free}
 use Rattle.blic_model.proofs.ShapedParts.{tabled_from_shaped}
 
 pub kept_long : (nodes : List Node) (levels : ℕ) (stored : List (List ℕ)) → IsKept nodes levels stored → length stored ≡ length nodes
@@ -33,9 +32,8 @@ pub made_lists : (nodes read : List Node) (levels : ℕ) (stored : List (List �
 made_lists nodes read levels stored e shaped made =
     made levels (subst (λ ns. HasLevels ns levels) (sym e) (tabled_from_shaped nodes levels shaped).1) ∙ ap (λ ns. free_lists ns levels (length ns)) e
 
-pub made_short : (nodes : List Node) (levels : ℕ) (stored : List (List ℕ)) → IsShaped nodes levels → stored ≡ free_lists nodes levels (length nodes) → (length stored ≡ length nodes) × AreShort stored
-made_short nodes levels stored shaped e = short_lists nodes levels stored (tabled_from_shaped nodes levels shaped).1.few e
+pub made_points : (nodes read : List Node) (levels r : ℕ) → read ≡ nodes → r ≡ points read levels → r ≡ points nodes levels
+made_points nodes read levels r e f = f ∙ ap (λ ns. points ns levels) e
 
-pub made_points : (nodes read : List Node) (levels : ℕ) (stored : List (List ℕ)) (r : ℕ) → read ≡ nodes → stored ≡ free_lists nodes levels (length nodes)
-    → r ≡ sum_by (listed_points read stored) (below (length read)) → r ≡ points nodes levels
-made_points nodes read levels stored r e f g = g ∙ (ap (λ ns. sum_by (listed_points ns stored) (below (length ns))) e ∙ points_listed nodes levels stored f)
+pub tabled_read : (nodes read : List Node) (levels : ℕ) → IsShaped nodes levels → read ≡ nodes → IsTabled read
+tabled_read nodes read levels shaped e = subst IsTabled (sym e) (tabled_from_shaped nodes levels shaped).0

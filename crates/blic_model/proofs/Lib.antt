@@ -10,6 +10,7 @@ pub mod Entries
 mod FewNodes
 pub mod FormulaCircuit
 pub mod FormulaShape
+mod FreeCounts
 mod FreeLevels
 mod FreeLists
 mod FreeRoot
@@ -19,6 +20,7 @@ mod InRange
 mod KeptLists
 mod LastNode
 mod Leaves
+mod LevelBits
 mod LevelOf
 pub mod LinearValues
 mod Mapped
@@ -32,6 +34,7 @@ pub mod Put
 mod Quantified
 pub mod Reduced
 pub mod Shaped
+mod SetTables
 mod ShapedParts
 mod StretchLaws
 pub mod Values

@@ -1,7 +1,7 @@
 -- What the tables of a circuit say; only the making of circuits speaks of it.
-use Rattle.std.specs.Prelude.{◌≡◌, ℕ, ◌+◌, ◌*◌, ◌<◌, ◌≤◌, true, cond, List, [], length, slice_index, slice_index_or, sum_by}
+use Rattle.std.specs.Prelude.{◌≡◌, ℕ, ◌+◌, ◌*◌, ◌<◌, ◌≤◌, true, cond, List, filter, length, slice_index, sum_by}
 use Rattle.blic_model.specs.declared.node.Node.{Node}
-use Rattle.blic_model.specs.Circuit.{node_at, below}
+use Rattle.blic_model.specs.Circuit.{node_at, below, is_free}
 use Rattle.blic_model.specs.Counts.{is_binary, claims}
 use Rattle.blic_model.specs.Shape.{children_below, levels_below, IsShaped}
 use Rattle.blic_model.specs.CircuitLimits.{IsWithinLimits}
@@ -28,9 +28,9 @@ pub record HasClaims (nodes : List Node) (counts : List ℕ) : Type 0 where
   pub each : (k : ℕ) → k < length nodes → slice_index counts k ≡ claims nodes k
   pub few : sum_by (binary_claims nodes) (below (length nodes)) ≤ 2 * length nodes + 1
 
--- the points of node k, by its list of free levels
-abbrev pub listed_points : List Node → List (List ℕ) → ℕ → ℕ
-listed_points nodes lists k = cond (is_binary (node_at nodes k)) (claims nodes k * length (slice_index_or lists k [])) 0
+-- the points of node k at those of the levels that it depends on
+abbrev pub points_at : List Node → List ℕ → ℕ → ℕ
+points_at nodes levels k = cond (is_binary (node_at nodes k)) (claims nodes k * length (filter (is_free nodes k) levels)) 0
 
 -- what each circuit keeps to, with the free levels that it stores
 pub record IsKept (nodes : List Node) (levels : ℕ) (stored : List (List ℕ)) : Type 0 where

@@ -7,6 +7,7 @@ pub mod Degree
 pub mod Formula
 pub mod Laws
 pub mod LevelLists
+pub mod LevelSets
 pub mod Limits
 pub mod Marks
 pub mod Order
@@ -14,5 +15,6 @@ pub mod Reduction
 pub mod Refusals
 pub mod Shape
 pub mod Stretches
+pub mod Subfunctions
 pub mod Truth
 pub mod Value

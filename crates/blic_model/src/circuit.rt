@@ -52,6 +52,7 @@ impl Model for Circuit {
 impl Circuit {
     /// The circuit of these nodes over an order from level to variable. `shaped` tests the
     /// condition. Too many claims are told before too many points.
+    #[tactic(auto, using(crate::proofs::KeptLists::tabled_read))]
     pub fn new(
         alloc: Global,
         nodes: Vec<Node>,
@@ -71,13 +72,15 @@ impl Circuit {
                 claims: u64::from(counts[node as usize]),
             });
         }
-        let Ok(free) = free_levels(alloc, &nodes) else {
+        let Ok(points) = count_points(alloc, &nodes, &counts, order.len()) else {
             return Err(CircuitError::NoMem);
         };
-        let points = count_points(&nodes, &counts, &free);
         if points > MOST_POINTS {
             return Err(CircuitError::TooManyPoints { points });
         }
+        let Ok(free) = free_levels(alloc, &nodes) else {
+            return Err(CircuitError::NoMem);
+        };
         Ok(Circuit {
             nodes,
             order,

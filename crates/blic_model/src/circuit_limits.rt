@@ -1,12 +1,16 @@
 // The limits of circuits: claims on a binary node, and points.
-ghost use Rattle.std.specs.Prelude.{◌≡◌, ◌≤◌, ◌<◌, ◌*◌, ◌^◌, ℕ, length, cond, [], sum_by, MatchOption, slice_index, slice_index_or};
-ghost use Rattle.blic_model.specs.Counts.{is_binary as is_binary_node};
+ghost use Rattle.std.specs.Prelude.{◌≡◌, ◌≤◌, length, sum_by, IfOk, MatchOption, slice_index};
+ghost use Rattle.blic_model.specs.Counts.{is_binary as is_binary_node, points as points_of};
 ghost use Rattle.blic_model.specs.Circuit.{below};
 ghost use Rattle.blic_model.specs.CircuitLimits.{FewClaimsFrom, IsGreatestOver};
-ghost use Rattle.blic_model.specs.CircuitTables.{HasClaims, listed_points};
+ghost use Rattle.blic_model.specs.CircuitTables.{IsTabled, HasLevels, HasClaims, points_at};
+ghost use Rattle.blic_model.specs.LevelSets.{levels_from};
 
-use crate::level_lists::LevelLists;
+use crate::level_set::LevelSet;
+use crate::level_sets::LevelSets;
 use crate::node::Node;
+use blic_basic::NoMem;
+use std::alloc::Global;
 
 pub const MOST_CLAIMS: u32 = 65_536;
 
@@ -18,9 +22,7 @@ pub(crate) fn greatest_over(nodes: &[Node], counts: &[u32]) -> Option<u32>
     requires few { length nodes.now ≤ 4194304 }
     ensures { MatchOption result (FewClaimsFrom nodes.now 0) (λ k. IsGreatestOver nodes.now k (slice_index counts.now k)) }
 {
-    let mut i = nodes.len();
-    while 0 < i {
-        i -= 1;
+    for i in (0..nodes.len()).rev() {
         if is_binary(nodes[i]) && MOST_CLAIMS < counts[i] {
             return Some(i as u32);
         }
@@ -28,31 +30,45 @@ pub(crate) fn greatest_over(nodes: &[Node], counts: &[u32]) -> Option<u32>
     None
 }
 
-/// The number of points. It fits, since binary nodes have few claims together.
-pub(crate) fn count_points(nodes: &[Node], counts: &[u32], free: &LevelLists) -> u64
+/// The number of points, counted for 256 levels at a time: it takes memory for each node alone.
+pub(crate) fn count_points(
+    alloc: Global,
+    nodes: &[Node],
+    counts: &[u32],
+    levels: usize,
+) -> Result<u64, NoMem>
+    requires nodes { IsTabled nodes.now }
+    requires levels { HasLevels nodes.now levels }
     requires claims { HasClaims nodes.now counts.now }
-    requires few { length nodes.now ≤ 4194304 }
-    requires long { length free.now ≡ length nodes.now }
-    requires short { (k : ℕ) → k < length free.now → length (slice_index_or free.now k []) < 4294967296 }
-    ensures { result ≡ sum_by (listed_points nodes.now free.now) (below (length nodes.now)) }
+    ensures { IfOk result (λ count. count ≡ points_of nodes.now levels) }
 {
+    let mut sets = LevelSets::new(alloc, nodes.len())?;
     let mut points = 0;
-    for (k, node) in nodes.iter().enumerate() {
-        points += node_points(*node, counts[k], free.len(k));
+    let mut first = 0;
+    while first < levels as u64 {
+        points += count_within(nodes, counts, &mut sets, first);
+        first += LevelSet::ROOM;
     }
-    points
+    Ok(points)
 }
 
-// The points of one node.
-fn node_points(node: Node, claims: u32, levels: usize) -> u64
-    requires { levels < 4294967296 }
-    ensures { result ≡ cond (is_binary_node node) (claims * levels) 0 }
+// The number of points at 256 levels from the first one on.
+fn count_within(nodes: &[Node], counts: &[u32], sets: &mut LevelSets, first: u64) -> u64
+    requires nodes { IsTabled nodes.now }
+    requires claims { HasClaims nodes.now counts.now }
+    requires long { length sets.old ≡ length nodes.now }
+    requires first { first ≤ 4294967296 }
+    ensures count { result ≡ sum_by (points_at nodes.now (levels_from first 256)) (below (length nodes.now)) }
+    ensures long { length sets.new ≡ length nodes.now }
 {
-    if is_binary(node) {
-        u64::from(claims) * levels as u64
-    } else {
-        0
+    sets.fill(nodes, first);
+    let mut points = 0;
+    for (k, node) in nodes.iter().enumerate() {
+        if is_binary(*node) {
+            points += u64::from(counts[k]) * u64::from(sets.get(k).len());
+        }
     }
+    points
 }
 
 fn is_binary(node: Node) -> bool

@@ -1,4 +1,6 @@
 // Which nodes are circuits, and what a circuit shows.
+ghost use Rattle.std.specs.Prelude.{◌≤◌};
+
 use crate::{Circuit, CircuitError, Node};
 use std::alloc::Global;
 use std::test::Fail;
@@ -152,5 +154,50 @@ fn one_claim_past_the_limit_is_refused_by_its_node(rt: HostRuntime) -> Result<()
             claims: 65_537,
         }
     );
+    Ok(())
+}
+
+// The levels joined by `Or`, the topmost first, and then taken away, the last first.
+fn chain_of(alloc: Global, levels: u32) -> Result<Vec<Node>, Fail>
+    requires some { 2 ≤ levels }
+    requires few { levels ≤ 10000 }
+{
+    let mut nodes = Vec::new(alloc);
+    for level in 0..levels {
+        nodes.push(Node::Var(level))?;
+    }
+    nodes.push(Node::Or(0, 1))?;
+    for level in 2..levels {
+        nodes.push(Node::Or(levels + level - 2, level))?;
+    }
+    for i in 0..levels {
+        let level = levels - 1 - i;
+        let child = 2 * levels - 2 + 3 * i;
+        for bit in [false, true] {
+            nodes.push(Node::Fix { level, bit, child })?;
+        }
+        nodes.push(Node::Or(child + 1, child + 2))?;
+    }
+    Ok(nodes)
+}
+
+fn chain(alloc: Global, levels: u32) -> Result<Result<Option<Circuit>, CircuitError>, Fail>
+    requires some { 2 ≤ levels }
+    requires few { levels ≤ 10000 }
+{
+    let order = vec![in alloc; 7u32; levels as usize]?;
+    Ok(circuit_of(alloc, &chain_of(alloc, levels)?, &order))
+}
+
+// A chain of n levels has 3/2 n (n - 1) + 2 n - 1 points.
+#[test]
+fn one_level_past_the_limit_on_points_is_refused_with_their_number(
+    rt: HostRuntime,
+) -> Result<(), Fail> {
+    let alloc = rt.alloc();
+    let made = chain(alloc, 3_344)??.ok_or("no circuit")?;
+    assert_eq!(rt; made.root(), 16_718);
+    let refused = chain(alloc, 3_345)?.err().ok_or("a circuit")?;
+    assert_eq!(rt; refused, CircuitError::TooManyPoints { points: 16_785_209 });
     Ok(())
 }

@@ -8,6 +8,8 @@ mod formula;
 mod free_levels;
 mod laws;
 mod level_lists;
+mod level_set;
+mod level_sets;
 mod limits;
 mod node;
 mod prefix;

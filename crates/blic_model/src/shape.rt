@@ -5,7 +5,8 @@ ghost use Rattle.blic_model.specs.Circuit.{node_at, root as root_of, below, is_f
 ghost use Rattle.blic_model.specs.Shape.{is_shaped as is_shaped_by, children_below, levels_below, all_differ as are_different, is_child};
 ghost use Rattle.blic_model.specs.CircuitTables.{IsTabled, HasLevels};
 
-use crate::free_levels::free_levels;
+use crate::level_set::LevelSet;
+use crate::level_sets::LevelSets;
 use crate::node::Node;
 use blic_basic::NoMem;
 use std::alloc::Global;
@@ -15,8 +16,8 @@ pub const MOST_NODES: usize = 4_194_304;
 
 pub const MOST_LEVELS: usize = 4_294_967_295;
 
-/// Whether the nodes are a circuit over this many levels. It takes memory for each node and for the
-/// free levels, and a search in a tree for each node.
+/// Whether the nodes are a circuit over this many levels. It takes memory for each node, a search in
+/// a tree for each node, and a pass over the nodes for every 256 levels.
 pub(crate) fn is_shaped(alloc: Global, nodes: &[Node], levels: usize) -> Result<bool, NoMem>
     ensures { IfOk result (λ answer. answer ≡ is_shaped_by nodes.now levels) }
 {
@@ -143,6 +144,14 @@ fn root_is_closed(alloc: Global, nodes: &[Node], levels: usize) -> Result<bool, 
     requires levels { HasLevels nodes.now levels }
     ensures { IfOk result (λ answer. answer ≡ list_all (λ x. not (is_free nodes.now (root_of nodes.now) x)) (below levels)) }
 {
-    let free = free_levels(alloc, nodes)?;
-    Ok(free.len(nodes.len() - 1) == 0)
+    let mut sets = LevelSets::new(alloc, nodes.len())?;
+    let mut first = 0;
+    while first < levels as u64 {
+        sets.fill(nodes, first);
+        if 0 < sets.get(nodes.len() - 1).len() {
+            return Ok(false);
+        }
+        first += LevelSet::ROOM;
+    }
+    Ok(true)
 }

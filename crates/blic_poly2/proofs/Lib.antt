@@ -1,2 +1,3 @@
 pub mod LinearValues
+pub mod Roots
 pub mod Values

@@ -1,9 +1,9 @@
 // The laws of small polynomials, over the definitions that their calls cite.
-ghost use Rattle.blic_field.specs.Field.{add, blend, minus_one, modulus, mul, neg, or, sub};
+ghost use Rattle.blic_field.specs.Field.{add, blend, IsPrime, minus_one, modulus, mul, neg, or, sub};
 ghost use Rattle.blic_field.specs.Quadratic.{at, HasElements, interpolate, Quadratic};
 ghost use Rattle.blic_poly2.specs.Poly.{lin_at, LinHasElements, reduced_at};
 ghost use Rattle.blic_poly2.specs.declared.linear.Lin.{Lin};
-ghost use Rattle.std.specs.Prelude.{◌≡◌, ◌<◌, ℕ};
+ghost use Rattle.std.specs.Prelude.{◌≡◌, ◌<◌, ◌⊎◌, ℕ};
 
 /// A polynomial is given by its values at 0, 1 and -1, and a linear one by those at 0 and 1.
 pub fn interpolation_law()
@@ -48,4 +48,11 @@ pub fn product_law()
           c1 = sub (add a.c1 b.c1) (add (mul a.c0 b.c1) (mul a.c1 b.c0));
           c2 = neg (mul a.c1 b.c1);
         }) x ≡ or (lin_at a x) (lin_at b x) }
+{}
+
+/// Given that the modulus is prime, a polynomial of degree at most two that isn't zero has no three different roots.
+pub fn roots_law()
+    ensures { IsPrime modulus → (p : Quadratic) → HasElements p → (p ≡ record { c0 = 0; c1 = 0; c2 = 0 } → ⊥)
+        → (a b c : ℕ) → a < modulus → b < modulus → c < modulus → at p a ≡ 0 → at p b ≡ 0 → at p c ≡ 0
+        → (a ≡ b) ⊎ ((a ≡ c) ⊎ (b ≡ c)) }
 {}

@@ -5,7 +5,7 @@ mod laws;
 mod linear;
 mod poly;
 
-pub use laws::{blending_law, interpolation_law, product_law, reducing_law};
+pub use laws::{blending_law, interpolation_law, product_law, reducing_law, roots_law};
 pub use linear::Lin;
 pub use poly::Poly2;
 

@@ -1,3 +1,4 @@
+pub mod Asked
 pub mod Assigned
 pub mod Ends
 pub mod Means

@@ -1,5 +1,5 @@
 -- When each outcome may come. What is told of the files is a function from names to the bytes of those that there are.
-use Rattle.std.specs.Prelude.{◌≡◌, ℕ, ◌≤◌, ◌<◌, List, length, Option, Some, None, Result, Err, IfSome, IsSomeAnd}
+use Rattle.std.specs.Prelude.{◌≡◌, ℕ, ◌<◌, List, length, Option, Some, None, Err, IfSome, IsSomeAnd}
 use Rattle.blic_model.specs.Formula.{PrenexFormula}
 use Rattle.blic_model.specs.Truth.{truth}
 use Rattle.blic_model.specs.Limits.{IsFormula}
@@ -8,12 +8,10 @@ use Rattle.blic_model.specs.CircuitLimits.{IsGreatestOver, HasManyPoints, IsWith
 use Rattle.blic_qdimacs.specs.Meaning.{meaning, Spells}
 use Rattle.blic_qdimacs.specs.declared.error.ReadError.{ReadError}
 use Rattle.blic_qdimacs.specs.declared.error.ReadError.TheVariants as errors
+use Rattle.blic_solve.specs.Plan.{IsWithin, IsPairLimit, IsNodeLimit}
+use Rattle.blic_top.specs.Words.{SolveLimits, SolveWords}
 use Rattle.blic_top.specs.declared.outcome.Outcome.{Outcome}
-use Rattle.blic_top.specs.declared.outcome.Outcome.TheVariants.{Usage, NotRead, TooManyClaims, TooManyPoints, TooManyVariables, NoMemory, Solved}
-
--- at most so many entries of the prefix are solved by cases
-abbrev pub most_entries : ℕ
-most_entries = 20
+use Rattle.blic_top.specs.declared.outcome.Outcome.TheVariants.{Usage, NotRead, TooManyClaims, TooManyPoints, TooManyPairs, TooManyNodes, NoMemory, Solved}
 
 -- the formula is within the limits, and the file of that name spells it
 abbrev pub IsFileOf : PrenexFormula → Option (List ℕ → Option (List ℕ)) → List ℕ → Type 0
@@ -37,33 +35,48 @@ HasManyClaimsAt f k count = IsGreatestOver (circuit_of f).nodes k count
 abbrev pub HasPointsOver : PrenexFormula → ℕ → Type 0
 HasPointsOver f count = HasManyPoints (circuit_of f).nodes (length (circuit_of f).order) count
 
--- what solving the formula may say
-abbrev pub SaysOfFormula : PrenexFormula → Outcome → Type 0
-SaysOfFormula f (Solved t vars clauses) = HasSmallCircuit f × (length f.prefix ≤ most_entries) × (t ≡ truth f) × (vars ≡ f.vars) × (clauses ≡ length f.clauses)
-SaysOfFormula f (TooManyClaims node count) = HasManyClaimsAt f node count
-SaysOfFormula f (TooManyPoints count) = HasPointsOver f count
-SaysOfFormula f (TooManyVariables count) = HasSmallCircuit f × (most_entries < length f.prefix) × (count ≡ length f.prefix)
-SaysOfFormula f NoMemory = Unit {0}
-SaysOfFormula f Usage = ⊥
-SaysOfFormula f (NotRead error) = ⊥
+-- every node of the circuit is within the limits of solving
+abbrev pub IsSolvable : PrenexFormula → SolveLimits → Type 0
+IsSolvable f limits = (k : ℕ) → k < length (circuit_of f).nodes → IsWithin (circuit_of f).nodes (length (circuit_of f).order) limits.nodes limits.pairs k
 
--- what `solve` may say of the file of that name
-abbrev pub SaysOfFile : Option (List ℕ → Option (List ℕ)) → List ℕ → Outcome → Type 0
-SaysOfFile files name (Solved t vars clauses) = (f : PrenexFormula) × IsFileOf f files name × SaysOfFormula f (Solved t vars clauses)
-SaysOfFile files name (TooManyClaims node count) = (f : PrenexFormula) × IsFileOf f files name × SaysOfFormula f (TooManyClaims node count)
-SaysOfFile files name (TooManyPoints count) = (f : PrenexFormula) × IsFileOf f files name × SaysOfFormula f (TooManyPoints count)
-SaysOfFile files name (TooManyVariables count) = (f : PrenexFormula) × IsFileOf f files name × SaysOfFormula f (TooManyVariables count)
-SaysOfFile files name (NotRead error) = MayRefuse files name error
-SaysOfFile files name NoMemory = Unit {0}
-SaysOfFile files name Usage = ⊥
+-- node k is the first that passes a limit of solving, and it passes that of pairs
+abbrev pub HasManyPairsAt : PrenexFormula → SolveLimits → ℕ → Type 0
+HasManyPairsAt f limits k = IsPairLimit (circuit_of f).nodes (length (circuit_of f).order) limits.nodes limits.pairs k
 
--- what may be said of the words: the file that they name, or none where they don't fit
-abbrev pub Means : Option (List ℕ) → Option (List ℕ → Option (List ℕ)) → Outcome → Type 0
-Means (Some name) files outcome = SaysOfFile files name outcome
+-- node k is the first that passes a limit of solving, and it passes that of decisions alone
+abbrev pub HasManyNodesAt : PrenexFormula → SolveLimits → ℕ → Type 0
+HasManyNodesAt f limits k = IsNodeLimit (circuit_of f).nodes (length (circuit_of f).order) limits.nodes limits.pairs k
+
+-- what solving the formula within the limits may say
+abbrev pub SaysOfFormula : PrenexFormula → SolveLimits → Outcome → Type 0
+SaysOfFormula f limits (Solved t vars clauses) = HasSmallCircuit f × IsSolvable f limits × (t ≡ truth f) × (vars ≡ f.vars) × (clauses ≡ length f.clauses)
+SaysOfFormula f limits (TooManyClaims node count) = HasManyClaimsAt f node count
+SaysOfFormula f limits (TooManyPoints count) = HasPointsOver f count
+SaysOfFormula f limits (TooManyPairs node) = HasSmallCircuit f × HasManyPairsAt f limits node
+SaysOfFormula f limits (TooManyNodes node) = HasSmallCircuit f × HasManyNodesAt f limits node
+SaysOfFormula f limits NoMemory = Unit {0}
+SaysOfFormula f limits Usage = ⊥
+SaysOfFormula f limits (NotRead error) = ⊥
+
+-- what `solve` may say of a file within the limits
+abbrev pub SaysOfFile : Option (List ℕ → Option (List ℕ)) → SolveWords → Outcome → Type 0
+SaysOfFile files words (NotRead error) = MayRefuse files words.file error
+SaysOfFile files words NoMemory = Unit {0}
+SaysOfFile files words Usage = ⊥
+SaysOfFile files words (Solved t vars clauses) = (f : PrenexFormula) × IsFileOf f files words.file × SaysOfFormula f words.limits (Solved t vars clauses)
+SaysOfFile files words (TooManyClaims node count) = (f : PrenexFormula) × IsFileOf f files words.file × SaysOfFormula f words.limits (TooManyClaims node count)
+SaysOfFile files words (TooManyPoints count) = (f : PrenexFormula) × IsFileOf f files words.file × SaysOfFormula f words.limits (TooManyPoints count)
+SaysOfFile files words (TooManyPairs node) = (f : PrenexFormula) × IsFileOf f files words.file × SaysOfFormula f words.limits (TooManyPairs node)
+SaysOfFile files words (TooManyNodes node) = (f : PrenexFormula) × IsFileOf f files words.file × SaysOfFormula f words.limits (TooManyNodes node)
+
+-- what may be said of the words: what they ask for, or nothing where they don't fit
+abbrev pub Means : Option SolveWords → Option (List ℕ → Option (List ℕ)) → Outcome → Type 0
+Means (Some words) files outcome = SaysOfFile files words outcome
 Means None files Usage = Unit {0}
 Means None files NoMemory = Unit {0}
 Means None files (NotRead error) = ⊥
 Means None files (TooManyClaims node count) = ⊥
 Means None files (TooManyPoints count) = ⊥
-Means None files (TooManyVariables count) = ⊥
+Means None files (TooManyPairs node) = ⊥
+Means None files (TooManyNodes node) = ⊥
 Means None files (Solved t vars clauses) = ⊥

@@ -3,7 +3,7 @@ use Rattle.std.specs.Prelude.{ℕ, cond, List, [], ◌∷◌, ◌++◌, codes, d
 use Rattle.blic_qdimacs.specs.declared.error.ReadError.{ReadError}
 use Rattle.blic_qdimacs.specs.declared.error.ReadError.TheVariants as errors
 use Rattle.blic_top.specs.declared.outcome.Outcome.{Outcome}
-use Rattle.blic_top.specs.declared.outcome.Outcome.TheVariants.{Usage, NotRead, TooManyClaims, TooManyPoints, TooManyVariables, NoMemory, Solved}
+use Rattle.blic_top.specs.declared.outcome.Outcome.TheVariants.{Usage, NotRead, TooManyClaims, TooManyPoints, TooManyPairs, TooManyNodes, NoMemory, Solved}
 
 -- 3 for a fault, 9 for want of memory, 2 for a refused file
 abbrev pub read_status : ReadError → ℕ
@@ -16,7 +16,8 @@ status_of Usage = 1
 status_of (NotRead error) = read_status error
 status_of (TooManyClaims node count) = 8
 status_of (TooManyPoints count) = 8
-status_of (TooManyVariables count) = 8
+status_of (TooManyPairs node) = 8
+status_of (TooManyNodes node) = 8
 status_of NoMemory = 9
 status_of (Solved truth vars clauses) = cond truth 10 20
 
@@ -51,7 +52,8 @@ text_of Usage = codes "usage: blic solve FILE, certify FILE, verify FILE ADDR or
 text_of (NotRead error) = refusal_text error
 text_of (TooManyClaims node count) = codes "c limit claims at " ++ decimal node ++ codes " count " ++ decimal count ++ line_end
 text_of (TooManyPoints count) = codes "c limit points count " ++ decimal count ++ line_end
-text_of (TooManyVariables count) = codes "c limit variables count " ++ decimal count ++ line_end
+text_of (TooManyPairs node) = codes "c limit pairs at " ++ decimal node ++ line_end
+text_of (TooManyNodes node) = codes "c limit nodes at " ++ decimal node ++ line_end
 text_of NoMemory = codes "c want of memory" ++ line_end
 text_of (Solved truth vars clauses) =
     cond truth (codes "s cnf 1 ") (codes "s cnf 0 ") ++ decimal vars ++ codes " " ++ decimal clauses ++ line_end

@@ -11,4 +11,8 @@ pub use outcome::Outcome;
 pub use program::run;
 
 #[cfg(test)]
+mod evaluator;
+#[cfg(test)]
+mod evaluator_tests;
+#[cfg(test)]
 mod tests;

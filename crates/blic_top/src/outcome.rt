@@ -17,8 +17,10 @@ pub enum Outcome {
     TooManyClaims(u32, u64),
     /// The circuit has that many points, which are too many.
     TooManyPoints(u64),
-    /// The prefix has that many entries, more than are solved by cases.
-    TooManyVariables(usize),
+    /// The first node at which a limit of solving is passed passes that of pairs.
+    TooManyPairs(u32),
+    /// The first node at which a limit of solving is passed passes that of decisions alone.
+    TooManyNodes(u32),
     /// Memory ran out.
     NoMemory,
     /// The formula's truth, its number of variables and its number of clauses.
@@ -37,7 +39,8 @@ impl Outcome {
             Outcome::NotRead(_) => 2,
             Outcome::TooManyClaims(_, _) => 8,
             Outcome::TooManyPoints(_) => 8,
-            Outcome::TooManyVariables(_) => 8,
+            Outcome::TooManyPairs(_) => 8,
+            Outcome::TooManyNodes(_) => 8,
             Outcome::NoMemory => 9,
             Outcome::Solved(true, _, _) => 10,
             Outcome::Solved(false, _, _) => 20,
@@ -56,9 +59,8 @@ impl Outcome {
             Outcome::NotRead(error) => refusal_line(alloc, error),
             Outcome::TooManyClaims(node, count) => claims_line(alloc, node, count),
             Outcome::TooManyPoints(count) => format!(in alloc; "c limit points count {count}\n"),
-            Outcome::TooManyVariables(count) => {
-                format!(in alloc; "c limit variables count {count}\n")
-            }
+            Outcome::TooManyPairs(node) => format!(in alloc; "c limit pairs at {node}\n"),
+            Outcome::TooManyNodes(node) => format!(in alloc; "c limit nodes at {node}\n"),
             Outcome::NoMemory => String::from_str(alloc, "c want of memory\n"),
             Outcome::Solved(truth, vars, clauses) => answer_line(alloc, truth, vars, clauses),
         }

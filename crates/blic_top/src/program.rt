@@ -1,29 +1,30 @@
 // The program's work.
-ghost use Rattle.std.specs.Prelude.{◌≡◌, ◌≢◌, ◌≤◌, ◌<◌, ◌+◌, ℕ, List, Some, None, Option, ◌⊎◌, length, take, string_bytes, option_map};
+ghost use Rattle.std.specs.Prelude.{◌≡◌, ◌≢◌, ℕ, List, Some, None, Option, ◌⊎◌, take, string_bytes};
 ghost use Rattle.std.specs.Io.KnownBytes.{append_known};
 ghost use Rattle.blic_basic.specs.Outside.{Rose};
-ghost use Rattle.blic_top.specs.Words.{solve_file};
+ghost use Rattle.blic_model.specs.Building.{circuit_of};
+ghost use Rattle.blic_top.specs.Asked.{asked_by};
+ghost use Rattle.blic_top.specs.Words.{solve_words};
 ghost use Rattle.blic_top.specs.Outcome.{status_of, text_of};
 ghost use Rattle.blic_top.specs.Means.{HasSmallCircuit, Means, SaysOfFile, SaysOfFormula};
-ghost use Rattle.blic_top.specs.Ends.{Says, IsTold, Solves, LimitsVariables, LimitsCircuit, Refuses, IsOrNoMemory, OutcomeCounts};
+ghost use Rattle.blic_top.specs.Ends.{Says, IsTold, Solves, LimitsSolving, LimitsCircuit, Refuses, IsOrNoMemory, OutcomeCounts};
 
-use crate::cases::by_cases;
 use crate::outcome::Outcome;
-use crate::words::file_of;
+use crate::words::{SolveArguments, solve_arguments};
 use blic_basic::{Files, Opened, Sink, Wrote, write_all_counted};
 use blic_circuit::build;
-use blic_model::{CircuitError, Formula};
+use blic_model::{Circuit, CircuitError, Formula, boolean_value_law, circuit_law, shape_law};
 use blic_qdimacs::{ReadError, read};
+use blic_solve::{Plan, SolveError};
 use std::alloc::Global;
-
-/// At most so many entries of a prefix are solved by cases.
-const MOST_ENTRIES: usize = 20;
 
 /// Does all that the program does with its words, which are without its name. Answers the exit
 /// status. Every line goes to `out`.
 ///
 /// `solve FILE` reads the formula of a QDIMACS file and prints its truth, as
-/// `s cnf 1 V C` with status 10 or `s cnf 0 V C` with status 20.
+/// `s cnf 1 V C` with status 10 or `s cnf 0 V C` with status 20. `--nodes N` and `--pairs P` say
+/// how many decisions and pairs solving may take: N from 1 to 2^24, by default 2^22, and P from 1
+/// to 2^25, by default 2^24.
 ///
 /// | status | where |
 /// |---|---|
@@ -31,35 +32,37 @@ const MOST_ENTRIES: usize = 20;
 /// | 2 | the file spells no formula within the limits |
 /// | 3 | a call on the files or on the opened file failed |
 /// | 4 | a call on `out` failed; it holds a front of what was to be printed |
-/// | 8 | the formula's circuit passes a limit, or else the prefix has more than 20 entries |
+/// | 8 | the formula's circuit passes a limit of circuits, or else one of solving |
 /// | 9 | memory ran out |
 pub fn run<F: Files, O: Sink>(alloc: Global, words: &Vec<String>, files: &mut F, out: &mut O) -> u8
     // What is told has come, and what is printed is its text.
-    ensures says { Says (solve_file words.now.items) (F.files files.old) result (O.held out.old) (O.held out.new) }
+    ensures says { Says (solve_words words.now.items) (F.files files.old) result (O.held out.old) (O.held out.new) }
 
-    // A fault is told only where one was.
+    // A fault is told only where one was, and of the files' faults none is passed over.
     ensures read_fault { result ≡ 3 → Rose (F.faults files.old) (F.faults files.new) }
     ensures write_fault { result ≡ 4 → Rose (O.faults out.old) (O.faults out.new) }
+    ensures passes_no_fault { result ≢ 3 → result ≢ 4 → result ≢ 9 → F.faults files.new ≡ F.faults files.old }
 
     // Where nothing failed, the status follows from the words and the file.
-    ensures usage { ¬ (Rose (O.faults out.old) (O.faults out.new)) → solve_file words.now.items ≡ None → IsOrNoMemory result 1 }
+    ensures usage { ¬ (Rose (O.faults out.old) (O.faults out.new)) → solve_words words.now.items ≡ None → IsOrNoMemory result 1 }
     ensures solves { ¬ (Rose (F.faults files.old) (F.faults files.new)) → ¬ (Rose (O.faults out.old) (O.faults out.new))
-        → Solves (solve_file words.now.items) (F.files files.old) result }
-    ensures limits_variables { ¬ (Rose (F.faults files.old) (F.faults files.new)) → ¬ (Rose (O.faults out.old) (O.faults out.new))
-        → LimitsVariables (solve_file words.now.items) (F.files files.old) result }
+        → Solves (solve_words words.now.items) (F.files files.old) result }
+    ensures limits_solving { ¬ (Rose (F.faults files.old) (F.faults files.new)) → ¬ (Rose (O.faults out.old) (O.faults out.new))
+        → LimitsSolving (solve_words words.now.items) (F.files files.old) result }
     ensures limits_circuit { ¬ (Rose (F.faults files.old) (F.faults files.new)) → ¬ (Rose (O.faults out.old) (O.faults out.new))
-        → LimitsCircuit (solve_file words.now.items) (F.files files.old) result }
+        → LimitsCircuit (solve_words words.now.items) (F.files files.old) result }
     ensures refuses { ¬ (Rose (F.faults files.old) (F.faults files.new)) → ¬ (Rose (O.faults out.old) (O.faults out.new))
-        → Refuses (solve_file words.now.items) (F.files files.old) result }
+        → Refuses (solve_words words.now.items) (F.files files.old) result }
 {
     perform(alloc, words, files, out)
 }
 
 // What `run` does, with what it says and the causes of its faults.
 fn perform<F: Files, O: Sink>(alloc: Global, words: &[String], files: &mut F, out: &mut O) -> u8
-    ensures says { Says (solve_file words.now) (F.files files.old) result (O.held out.old) (O.held out.new) }
+    ensures says { Says (solve_words words.now) (F.files files.old) result (O.held out.old) (O.held out.new) }
     ensures read_fault { result ≡ 3 → Rose (F.faults files.old) (F.faults files.new) }
     ensures write_fault { result ≡ 4 → Rose (O.faults out.old) (O.faults out.new) }
+    ensures passes_no_fault { result ≢ 3 → result ≢ 4 → result ≢ 9 → F.faults files.new ≡ F.faults files.old }
 {
     let outcome = decide(alloc, words, files);
     tell(alloc, outcome, out)
@@ -67,28 +70,28 @@ fn perform<F: Files, O: Sink>(alloc: Global, words: &[String], files: &mut F, ou
 
 // What there is to say.
 fn decide<F: Files>(alloc: Global, words: &[String], files: &mut F) -> Outcome
-    ensures means { Means (solve_file words.now) (F.files files.old) result }
+    ensures means { Means (solve_words words.now) (F.files files.old) result }
     ensures cause { OutcomeCounts (F.faults files.old) (F.faults files.new) result }
 {
-    match file_of(alloc, words) {
-        Ok(Some(name)) => solve(alloc, name, files),
+    match solve_arguments(alloc, words) {
+        Ok(Some(asked)) => solve(alloc, &asked, files),
         Ok(None) => Outcome::Usage,
         Err(_) => Outcome::NoMemory,
     }
 }
 
-// Solves the formula of the file of that name.
-fn solve<F: Files>(alloc: Global, name: &str, files: &mut F) -> Outcome
-    ensures says { SaysOfFile (F.files files.old) name.now result }
+// Solves the formula of the file that is asked for.
+fn solve<F: Files>(alloc: Global, asked: &SolveArguments<'_>, files: &mut F) -> Outcome
+    ensures says { SaysOfFile (F.files files.old) (asked_by asked.now) result }
     ensures cause { OutcomeCounts (F.faults files.old) (F.faults files.new) result }
 {
-    match files.open_file(name) {
+    match files.open_file(asked.file) {
         Opened::Failed => Outcome::NotRead(ReadError::Fault),
         Opened::Source(mut source) => {
             let formula = read(alloc, &mut source);
             files.close_file(source);
             match formula {
-                Ok(formula) => solve_formula(alloc, &formula),
+                Ok(formula) => solve_formula(alloc, &formula, asked.nodes, asked.pairs),
                 Err(error) => Outcome::NotRead(error),
             }
         }
@@ -96,28 +99,38 @@ fn solve<F: Files>(alloc: Global, name: &str, files: &mut F) -> Outcome
 }
 
 // Solves a formula whose circuit is within its limits.
-fn solve_formula(alloc: Global, formula: &Formula) -> Outcome
-    ensures { SaysOfFormula formula.now result }
+fn solve_formula(alloc: Global, formula: &Formula, nodes: u32, pairs: u32) -> Outcome
+    ensures { SaysOfFormula formula.now (record { nodes = nodes; pairs = pairs }) result }
 {
     match build(alloc, formula, 0, 1) {
-        Ok(_) => solve_by_cases(alloc, formula),
+        Ok(circuit) => solve_circuit(alloc, formula, &circuit, nodes, pairs),
         Err(CircuitError::TooManyClaims { node, claims }) => Outcome::TooManyClaims(node, claims),
         Err(CircuitError::TooManyPoints { points }) => Outcome::TooManyPoints(points),
         Err(CircuitError::NoMem) => Outcome::NoMemory,
     }
 }
 
-fn solve_by_cases(alloc: Global, formula: &Formula) -> Outcome
-    requires { HasSmallCircuit formula.now }
-    ensures { SaysOfFormula formula.now result }
+// Solves the formula's circuit.
+fn solve_circuit(
+    alloc: Global,
+    formula: &Formula,
+    circuit: &Circuit,
+    nodes: u32,
+    pairs: u32,
+) -> Outcome
+    requires circuit { circuit.now ≡ circuit_of formula.now }
+    requires small { HasSmallCircuit formula.now }
+    ensures { SaysOfFormula formula.now (record { nodes = nodes; pairs = pairs }) result }
 {
-    let count = formula.prefix().len();
-    if count > MOST_ENTRIES {
-        return Outcome::TooManyVariables(count);
-    }
-    match by_cases(alloc, formula) {
-        Ok(truth) => Outcome::Solved(truth, formula.vars(), formula.clause_count()),
-        Err(_) => Outcome::NoMemory,
+    formula.is_within_limits();
+    circuit_law();
+    shape_law();
+    boolean_value_law();
+    match Plan::solve(alloc, circuit, nodes, pairs) {
+        Ok(plan) => Outcome::Solved(plan.answer(), formula.vars(), formula.clause_count()),
+        Err(SolveError::PairLimit { node }) => Outcome::TooManyPairs(node),
+        Err(SolveError::NodeLimit { node }) => Outcome::TooManyNodes(node),
+        Err(SolveError::NoMem) => Outcome::NoMemory,
     }
 }
 

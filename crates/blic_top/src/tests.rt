@@ -1,14 +1,15 @@
 // What `run` answers and prints, over files and an output in memory.
-use crate::run;
-use blic_basic::{Files, MemFile, MemFiles, MemSink, SureFiles, SureSink};
+use crate::{by_cases, run};
+use blic_basic::{Files, MemFile, MemFiles, MemSink, SureFiles, SureSource};
+use blic_qdimacs::read;
 use std::alloc::{AllocError, Global};
 use std::fmt::Write;
 use std::process::Abort;
 use std::test::Fail;
 
-fn words_of(alloc: Global, words: &[&str]) -> Result<Vec<String>, AllocError> {
+fn words_of(alloc: Global, words: &str) -> Result<Vec<String>, AllocError> {
     let mut all = Vec::new(alloc);
-    for word in words {
+    for word in words.split_whitespace() {
         all.push(String::from_str(alloc, word)?)?;
     }
     Ok(all)
@@ -33,7 +34,7 @@ fn files(
 }
 
 // The text in which a slash stands for the end of a line, and a percent sign for a carriage return.
-fn lines_of(alloc: Global, text: &str) -> Result<Vec<u8>, AllocError> {
+pub(crate) fn lines_of(alloc: Global, text: &str) -> Result<Vec<u8>, AllocError> {
     let mut bytes = Vec::new(alloc);
     for byte in text.as_bytes() {
         bytes.push(match *byte {
@@ -45,32 +46,52 @@ fn lines_of(alloc: Global, text: &str) -> Result<Vec<u8>, AllocError> {
     Ok(bytes)
 }
 
-// Runs `solve` on the file, and asserts its status and its line.
+// Runs `solve` on the file with these options, and asserts its status and its line.
 fn assert_solves(
     rt: &impl Abort,
     alloc: Global,
+    options: &str,
     file: &[u8],
     status: u8,
     line: &str,
 ) -> Result<(), Fail> {
-    let words = words_of(alloc, &["solve", "f"])?;
+    let mut words = words_of(alloc, "solve f")?;
+    words.append(&mut words_of(alloc, options)?)?;
     let mut out = sink(alloc, Vec::new(alloc), 100)?;
     assert_eq!(rt;
         run(alloc, &words, &mut SureFiles::new(file), &mut out),
         status,
-        "{line}"
+        "{options} {line}"
     );
     assert_eq!(rt; out.bytes(), lines_of(alloc, line)?.as_slice());
     Ok(())
 }
 
-// Rows of a file, its status and its line, with a bar between them.
+// The status of the formula's truth by trying all values, where it is one of few variables.
+fn status_by_cases(alloc: Global, file: &[u8]) -> Result<Option<u8>, Fail> {
+    match read(alloc, &mut SureSource::new(file)) {
+        Ok(formula) if formula.prefix().len() <= 20 => {
+            let answer = by_cases(alloc, &formula).map_err(|_| "memory")?;
+            Ok(Some(if answer { 10 } else { 20 }))
+        }
+        _ => Ok(None),
+    }
+}
+
+// Rows of options, a file, its status and its line, with a bar between them. Where the answer is
+// a truth, trying all values gives the same one.
 fn assert_rows(rt: &impl Abort, alloc: Global, rows: &str) -> Result<(), Fail> {
     for row in rows.lines() {
-        let (text, rest) = row.split_once('|').ok_or("a file and more")?;
+        let (options, rest) = row.split_once('|').ok_or("options and more")?;
+        let (text, rest) = rest.split_once('|').ok_or("a file and more")?;
         let (status, line) = rest.split_once('|').ok_or("a status and a line")?;
         let status = status.parse::<u8>().map_err(|_| "a status")?;
-        assert_solves(rt, alloc, lines_of(alloc, text)?.as_slice(), status, line)?;
+        let file = lines_of(alloc, text)?;
+        assert_solves(rt, alloc, options, file.as_slice(), status, line)?;
+        if status >= 10 {
+            let plain = status_by_cases(alloc, file.as_slice())?;
+            assert_eq!(rt; plain.unwrap_or(status), status, "{text}");
+        }
     }
     Ok(())
 }
@@ -80,16 +101,54 @@ fn a_file_that_spells_a_formula_gets_its_truth(rt: HostRuntime) -> Result<(), Fa
     assert_rows(
         &rt,
         rt.alloc(),
-        "p cnf 2 2/a 1 0/e 2 0/1 2 0/-1 -2 0/|10|s cnf 1 2 2/
-p cnf 2 2/e 2 0/a 1 0/1 2 0/-1 -2 0/|20|s cnf 0 2 2/
-p cnf 2 2/a 1 0/1 2 0/-1 -2 0/|20|s cnf 0 2 2/
-p cnf 1 2/e 1 0/1 -1 0/1 1 0/|10|s cnf 1 1 2/
-p cnf 2 1%/e 1 2 0%/1%/c middle%/2 0%/|10|s cnf 1 2 1/
-cnf/p cnf 0 0/|10|s cnf 1 0 0/
-p cnf 1 1/0/|20|s cnf 0 1 1/
-p cnf 65535 0/|10|s cnf 1 65535 0/
-p cnf 21 1/e 1 2 3 4 5 6 7 8 9 10 11 12 13 14 15 16 17 18 19 20 21 0/1 0/|8|c limit variables count 21/
-p cnf 20 1/e 1 2 3 4 5 6 7 8 9 10 11 12 13 14 15 16 17 18 19 20 0/1 0/|10|s cnf 1 20 1/",
+        "|p cnf 2 2/a 1 0/e 2 0/1 2 0/-1 -2 0/|10|s cnf 1 2 2/
+|p cnf 2 2/e 2 0/a 1 0/1 2 0/-1 -2 0/|20|s cnf 0 2 2/
+|p cnf 2 2/a 1 0/1 2 0/-1 -2 0/|20|s cnf 0 2 2/
+|p cnf 1 2/e 1 0/1 -1 0/1 1 0/|10|s cnf 1 1 2/
+|p cnf 2 1%/e 1 2 0%/1%/c middle%/2 0%/|10|s cnf 1 2 1/
+|cnf/p cnf 0 0/|10|s cnf 1 0 0/
+|p cnf 1 1/0/|20|s cnf 0 1 1/
+|p cnf 3 4/e 1 0/a 2 0/e 3 0/1 2 3 0/1 -2 -3 0/-1 2 -3 0/-1 -2 3 0/|10|s cnf 1 3 4/
+|p cnf 3 4/a 1 0/e 2 0/a 3 0/1 2 3 0/1 -2 -3 0/-1 2 -3 0/-1 -2 3 0/|20|s cnf 0 3 4/
+|p cnf 4 4/a 1 2 0/e 3 4 0/1 3 0/-1 -3 0/2 4 0/-2 -4 0/|10|s cnf 1 4 4/
+|p cnf 4 4/a 1 0/e 4 0/a 2 0/e 3 0/1 3 0/-1 -3 0/2 4 0/-2 -4 0/|20|s cnf 0 4 4/
+|p cnf 3 2/a 3 0/1 -3 0/2 3 0/|10|s cnf 1 3 2/
+|p cnf 65535 0/|10|s cnf 1 65535 0/
+|p cnf 21 1/e 1 2 3 4 5 6 7 8 9 10 11 12 13 14 15 16 17 18 19 20 21 0/1 0/|10|s cnf 1 21 1/
+|p cnf 20 1/e 1 2 3 4 5 6 7 8 9 10 11 12 13 14 15 16 17 18 19 20 0/1 0/|10|s cnf 1 20 1/",
+    )
+}
+
+#[test]
+fn the_limits_of_solving_are_exact(rt: HostRuntime) -> Result<(), Fail> {
+    assert_rows(
+        &rt,
+        rt.alloc(),
+        "--nodes 7|p cnf 2 2/a 1 0/e 2 0/1 2 0/-1 -2 0/|10|s cnf 1 2 2/
+--nodes 6|p cnf 2 2/a 1 0/e 2 0/1 2 0/-1 -2 0/|8|c limit nodes at 6/
+--pairs 4|p cnf 2 2/a 1 0/e 2 0/1 2 0/-1 -2 0/|10|s cnf 1 2 2/
+--pairs 3|p cnf 2 2/a 1 0/e 2 0/1 2 0/-1 -2 0/|8|c limit pairs at 9/
+--nodes 6 --pairs 2|p cnf 2 2/a 1 0/e 2 0/1 2 0/-1 -2 0/|8|c limit pairs at 6/
+--pairs 3 --nodes 6|p cnf 2 2/a 1 0/e 2 0/1 2 0/-1 -2 0/|8|c limit nodes at 6/
+--pairs 9|p cnf 2 4/e 1 2 0/1 2 0/-1 -2 0/1 -2 0/-1 2 0/|20|s cnf 0 2 4/
+--pairs 8|p cnf 2 4/e 1 2 0/1 2 0/-1 -2 0/1 -2 0/-1 2 0/|8|c limit pairs at 10/
+--pairs 3|p cnf 2 2/e 1 2 0/1 2 0/1 2 0/|10|s cnf 1 2 2/
+--pairs 2|p cnf 2 2/e 1 2 0/1 2 0/1 2 0/|8|c limit pairs at 3/
+--nodes 3|p cnf 2 2/e 1 2 0/1 2 0/1 2 0/|10|s cnf 1 2 2/
+--nodes 2|p cnf 2 2/e 1 2 0/1 2 0/1 2 0/|8|c limit nodes at 2/
+--nodes 1 --pairs 1|p cnf 1 1/0/|20|s cnf 0 1 1/",
+    )
+}
+
+#[test]
+fn numbers_in_their_ranges_fit(rt: HostRuntime) -> Result<(), Fail> {
+    assert_rows(
+        &rt,
+        rt.alloc(),
+        "--nodes 0000000007|p cnf 2 2/a 1 0/e 2 0/1 2 0/-1 -2 0/|10|s cnf 1 2 2/
+--nodes 0000000006|p cnf 2 2/a 1 0/e 2 0/1 2 0/-1 -2 0/|8|c limit nodes at 6/
+--nodes=7 --pairs=4|p cnf 2 2/a 1 0/e 2 0/1 2 0/-1 -2 0/|10|s cnf 1 2 2/
+--nodes 16777216 --pairs 33554432|p cnf 2 2/a 1 0/e 2 0/1 2 0/-1 -2 0/|10|s cnf 1 2 2/",
     )
 }
 
@@ -98,27 +157,27 @@ fn a_file_that_spells_none_gets_its_first_refusal(rt: HostRuntime) -> Result<(),
     assert_rows(
         &rt,
         rt.alloc(),
-        "|2|c refused NoProblemLine line 0/
-e 1 0/|2|c refused NoProblemLine line 1/
-p cnf 1/|2|c refused BadProblemLine line 1/
-p cnf 1 1%1 0|2|c refused BadProblemLine line 1/
-p cnf 1 1/1 x 0/|2|c refused BadToken line 2/
-p cnf 1 1/1 -0/|2|c refused BadToken line 2/
-p cnf 2 0/e -3 0/|2|c refused BadToken line 2/
-p cnf 1 1/1 0 c x/|2|c refused BadToken line 2/
-p cnf 1 1/2147483648 0/|2|c refused NumberTooLarge line 2/
-p cnf 2 0/e -2147483648 0/|2|c refused NumberTooLarge line 2/
-p cnf 65536 2147483648/|2|c refused NumberTooLarge line 1/
-p cnf 1 1/2 0/|2|c refused VariableTooLarge line 2/
-p cnf 2 1/e 1 2 0/a 1 0/1 0/|2|c refused BoundTwice line 3/
-p cnf 2 1/1 0/e 2 0/|2|c refused SetAfterClause line 3/
-p cnf 1 1/1 0/-1 0/|2|c refused TooManyClauses line 3/
-p cnf 1 1/0/0/|2|c refused TooManyClauses line 3/
-p cnf 1 2/1 0//c x/|2|c refused TooFewClauses line 2/
-p cnf 1 1/|2|c refused TooFewClauses line 1/
-p cnf 1 1/1/|2|c refused Unended line 2/
-p cnf 65536 0/|2|c refused TooManyVariables line 1/
-p cnf 1 1048577/|2|c refused ClauseLimit line 1/",
+        "||2|c refused NoProblemLine line 0/
+|e 1 0/|2|c refused NoProblemLine line 1/
+|p cnf 1/|2|c refused BadProblemLine line 1/
+|p cnf 1 1%1 0|2|c refused BadProblemLine line 1/
+|p cnf 1 1/1 x 0/|2|c refused BadToken line 2/
+|p cnf 1 1/1 -0/|2|c refused BadToken line 2/
+|p cnf 2 0/e -3 0/|2|c refused BadToken line 2/
+|p cnf 1 1/1 0 c x/|2|c refused BadToken line 2/
+|p cnf 1 1/2147483648 0/|2|c refused NumberTooLarge line 2/
+|p cnf 2 0/e -2147483648 0/|2|c refused NumberTooLarge line 2/
+|p cnf 65536 2147483648/|2|c refused NumberTooLarge line 1/
+|p cnf 1 1/2 0/|2|c refused VariableTooLarge line 2/
+|p cnf 2 1/e 1 2 0/a 1 0/1 0/|2|c refused BoundTwice line 3/
+|p cnf 2 1/1 0/e 2 0/|2|c refused SetAfterClause line 3/
+|p cnf 1 1/1 0/-1 0/|2|c refused TooManyClauses line 3/
+|p cnf 1 1/0/0/|2|c refused TooManyClauses line 3/
+|p cnf 1 2/1 0//c x/|2|c refused TooFewClauses line 2/
+|p cnf 1 1/|2|c refused TooFewClauses line 1/
+|p cnf 1 1/1/|2|c refused Unended line 2/
+|p cnf 65536 0/|2|c refused TooManyVariables line 1/
+|p cnf 1 1048577/|2|c refused ClauseLimit line 1/",
     )
 }
 
@@ -153,6 +212,7 @@ fn a_circuit_past_a_limit_is_refused_by_its_numbers(rt: HostRuntime) -> Result<(
     assert_solves(
         &rt,
         alloc,
+        "",
         points.as_bytes(),
         8,
         "c limit points count 54002999/",
@@ -161,6 +221,7 @@ fn a_circuit_past_a_limit_is_refused_by_its_numbers(rt: HostRuntime) -> Result<(
     assert_solves(
         &rt,
         alloc,
+        "",
         claims.as_bytes(),
         8,
         "c limit claims at 2 count 131072/",
@@ -170,20 +231,31 @@ fn a_circuit_past_a_limit_is_refused_by_its_numbers(rt: HostRuntime) -> Result<(
 #[test]
 fn words_that_do_not_fit_get_the_usage_line(rt: HostRuntime) -> Result<(), Fail> {
     let alloc = rt.alloc();
-    let rows: [&[&str]; 6] = [
-        &[],
-        &["solve"],
-        &["solve", "a", "b"],
-        &["certify", "f"],
-        &["solve", "--help"],
-        &["solve", "f", "--nodes", "7"],
-    ];
-    for row in rows {
+    let rows = "
+solve
+solve a b
+certify f
+solve --help
+solve f -- b
+solve f --node 7
+solve f --nodes
+solve f --nodes 0
+solve f --nodes x
+solve f --nodes +7
+solve f --nodes=
+solve f --nodes 16777217
+solve f --nodes 4294967296
+solve f --nodes 00000000001
+solve f --nodes 1 --nodes 1
+solve f --pairs 0
+solve f --pairs 33554433";
+    for row in rows.lines() {
         let words = words_of(alloc, row)?;
         let mut out = sink(alloc, Vec::new(alloc), 100)?;
         assert_eq!(rt;
             run(alloc, &words, &mut SureFiles::new(b"p cnf 0 0\n"), &mut out),
-            1
+            1,
+            "{row}"
         );
         let usage = b"usage: blic solve FILE, certify FILE, verify FILE ADDR or exercise N\n";
         assert_eq!(rt; out.bytes(), usage.as_slice());
@@ -197,14 +269,14 @@ fn a_fault_of_the_files_is_a_read_fault(rt: HostRuntime) -> Result<(), Fail> {
     let text = b"p cnf 1 1\ne 1 0\n1 0\n";
     let none = || Vec::new(alloc);
     let rows = [
-        ("g", none(), none()),
-        ("f", vec![in alloc; 0u64]?, none()),
-        ("f", none(), vec![in alloc; 0u64]?),
-        ("f", none(), vec![in alloc; 2u64]?),
-        ("f", none(), vec![in alloc; 4u64]?),
+        ("solve g", none(), none()),
+        ("solve f", vec![in alloc; 0u64]?, none()),
+        ("solve f", none(), vec![in alloc; 0u64]?),
+        ("solve f", none(), vec![in alloc; 2u64]?),
+        ("solve f", none(), vec![in alloc; 4u64]?),
     ];
-    for (name, failing, takes_failing) in rows {
-        let words = words_of(alloc, &["solve", name])?;
+    for (words, failing, takes_failing) in rows {
+        let words = words_of(alloc, words)?;
         let mut files = files(alloc, text, failing, takes_failing)?;
         let mut out = sink(alloc, Vec::new(alloc), 100)?;
         assert_eq!(rt; run(alloc, &words, &mut files, &mut out), 3);
@@ -218,7 +290,7 @@ fn a_fault_of_the_files_is_a_read_fault(rt: HostRuntime) -> Result<(), Fail> {
 fn a_fault_of_the_output_leaves_a_front_of_the_line(rt: HostRuntime) -> Result<(), Fail> {
     let alloc = rt.alloc();
     let text = b"p cnf 1 1\ne 1 0\n1 0\n";
-    let words = words_of(alloc, &["solve", "f"])?;
+    let words = words_of(alloc, "solve f")?;
     let rows: [(u64, usize, &[u8]); 3] = [(0, 100, b""), (1, 100, b"s cnf 1"), (9, 4, b"s cn")];
     for (failing, room, front) in rows {
         let mut files = files(alloc, text, Vec::new(alloc), Vec::new(alloc))?;

@@ -1,7 +1,12 @@
-use Rattle.std.proofs.Common.{◌≡◌, sum_by}
-use Rattle.blic_model.specs.Circuit.{below}
-use Rattle.blic_model.specs.CircuitTables.{listed_points}
+use Rattle.std.proofs.Common.{◌≡◌, ◌-◌, length}
+use Rattle.blic_model.specs.Counts.{points}
 use Rattle.blic_model.proofs.circuit_limits.count_points.Given as goal
 
-abbrev pub invariant-loop-k : goal.invariant-loop-k
-invariant-loop-k l = l.points ≡ sum_by (listed_points l.nodes l.free) (below l.k)
+abbrev pub invariant-loop-first : goal.invariant-loop-first
+invariant-loop-first l = record {
+  long : length l.sets ≡ length l.nodes;
+  counted : l.points ≡ points l.nodes l.first;
+}
+
+abbrev pub decreases-loop-first : goal.decreases-loop-first
+decreases-loop-first l = l.levels - l.first

@@ -1,20 +1,30 @@
-use Rattle.std.proofs.Common.{arith, ◌<◌, ◌==◌, ◌∙◌, ap, [], length, get_or}
-use Rattle.blic_model.specs.Circuit.{root, below, is_free, free}
-use Rattle.blic_model.proofs.FreeLists.{entry_of_lists, length_of_lists}
-use Rattle.blic_model.proofs.DifferentNodes.{none_pass}
+use Rattle.std.proofs.Common.{arith, ◌∙◌}
+use Rattle.blic_model.specs.Circuit.{root, is_free}
+use Rattle.blic_model.proofs.FreeCounts.{closed_start, closed_more, closed_to_all, not_closed}
 use Rattle.blic_model.proofs.shape.root_is_closed.Goals as goal
 
-pub len-requires : goal.len-requires
-len-requires c =
+pub loop-first-init : goal.loop-first-init
+loop-first-init c = record { long = c.in_ok-sets.ensures; closed = closed_start c.args.nodes.now (root c.args.nodes.now) }
+
+pub returns-then-len-gt0 : goal.returns-then-len-gt0
+returns-then-len-gt0 c =
+    let nodes = c.args.nodes.now in
     let some = c.requires.nodes.some in
-    omega (arith, ap length (c.in_ok-free.ensures c.args.levels c.requires.levels), length_of_lists c.args.nodes.now c.args.levels (length c.args.nodes.now))
+    not_closed nodes c.args.levels c.loop-first.first (root nodes) c.len.result c.requires.nodes c.requires.levels (omega arith)
+    (c.len.ensures (is_free nodes (root nodes)) c.loop-first.first (c.get.ensures ∙ c.fill.ensures.each (root nodes) (omega arith))) (omega arith)
+
+pub loop-first-preserved : goal.loop-first-preserved
+loop-first-preserved c =
+    let nodes = c.args.nodes.now in
+    let some = c.requires.nodes.some in
+    record {
+      long = c.fill.ensures.long;
+      closed = closed_more nodes (root nodes) c.loop-first.first _ c.len.result c.loop-first.invariant.closed
+          (c.len.ensures (is_free nodes (root nodes)) c.loop-first.first (c.get.ensures ∙ c.fill.ensures.each (root nodes) (omega arith))) (omega arith) (omega arith);
+    }
 
 pub returns : goal.returns
-unfolding free
 returns c =
     let nodes = c.args.nodes.now in
     let some = c.requires.nodes.some in
-    let inside : root nodes < length nodes = omega arith in
-    ap (λ n. n == 0) (c.len.ensures ∙ ap length (ap (λ lists. get_or lists (root nodes) []) (c.in_ok-free.ensures c.args.levels c.requires.levels)
-    ∙ entry_of_lists nodes c.args.levels (length nodes) (root nodes) inside))
-    ∙ none_pass (is_free nodes (root nodes)) (below c.args.levels)
+    closed_to_all nodes c.args.levels c.loop-first.first (root nodes) c.requires.nodes c.requires.levels (omega arith) (omega arith) c.loop-first.invariant.closed

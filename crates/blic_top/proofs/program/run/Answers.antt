@@ -1,4 +1,4 @@
-use Rattle.blic_top.proofs.Solving.{solves_by, limits_variables_by, limits_circuit_by, refuses_by}
+use Rattle.blic_top.proofs.Solving.{solves_by, limits_solving_by, limits_circuit_by, refuses_by}
 use Rattle.blic_top.proofs.program.run.Goals as goal
 
 pub returns-clause-solves : goal.returns-clause-solves
@@ -7,10 +7,10 @@ returns-clause-solves g c calm quiet =
     (solves_by _ _ c.perform.result _ _ c.perform.ensures.says (λ e. calm (c.perform.ensures.read_fault e))
     (λ e. quiet (c.perform.ensures.write_fault e)))
 
-pub returns-clause-limits_variables : goal.returns-clause-limits_variables
-returns-clause-limits_variables g c calm quiet =
+pub returns-clause-limits_solving : goal.returns-clause-limits_solving
+returns-clause-limits_solving g c calm quiet =
     rw (← c.deref.ensures.value)
-    (limits_variables_by _ _ c.perform.result _ _ c.perform.ensures.says (λ e. calm (c.perform.ensures.read_fault e))
+    (limits_solving_by _ _ c.perform.result _ _ c.perform.ensures.says (λ e. calm (c.perform.ensures.read_fault e))
     (λ e. quiet (c.perform.ensures.write_fault e)))
 
 pub returns-clause-limits_circuit : goal.returns-clause-limits_circuit

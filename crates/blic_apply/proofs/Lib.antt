@@ -1,0 +1,5 @@
+pub mod Changing
+pub mod Combining
+pub mod Leaves
+pub mod Table
+pub mod Walk

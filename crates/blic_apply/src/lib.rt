@@ -1,0 +1,11 @@
+//! Boolean operations on the functions of a store.
+#![tactic(auto)]
+
+mod change;
+mod operation;
+mod rewriting;
+
+pub use operation::{Op, combine, fix, negate};
+
+#[cfg(test)]
+mod tests;

@@ -1,0 +1,116 @@
+// The graph: all pairs of two functions.
+ghost use Rattle.std.specs.Prelude.{◌≡◌, ◌<◌, ◌≤◌, ◌^◌, ◌↔◌, ℕ, List, length, Err, IfOk, IsTrue};
+ghost use Rattle.blic_graph.specs.Pairs.{IsGraph, PassesMost, pair_at};
+ghost use Rattle.blic_store.specs.Diagram.{IsRef};
+
+use crate::by_level::by_level;
+use crate::listing::all_pairs;
+use crate::pair::{Pair, Side};
+use blic_store::{Ref, Store};
+use std::alloc::Global;
+use std::marker::Model;
+use std::vec::Vec;
+
+/// Why the pairs were not listed.
+#[derive(Clone, Copy, Debug, PartialEq, Eq)]
+pub enum GraphError {
+    /// There are more pairs than were allowed.
+    PairsFull,
+    /// Memory ran out.
+    NoMem,
+}
+
+/// The pairs of two functions of a store, each once, in rising order of level. A pair is what both
+/// functions become where the same topmost levels are fixed, neither constant.
+#[derive(Drop)]
+pub struct Graph {
+    pairs: Vec<Pair>,
+}
+
+impl Model for Graph {
+    ghost use Rattle.std.specs.Prelude.{List, ◌<◌, ◌^◌, length};
+    ghost use Rattle.blic_graph.specs.declared.pair.Pair.{Pair};
+
+    ghost Value = { List Pair };
+
+    ghost view = { λ g. g.pairs.items };
+
+    ghost invariant = { λ g. length g.pairs.items < 2 ^ 32 };
+}
+
+impl Graph {
+    /// Lists the pairs of two functions of the store. It takes time that grows with n log n for n pairs.
+    ///
+    /// Refuses with `PairsFull` exactly where there are more than `most` pairs, and then
+    /// no list within `most` has them all (`pairs_full_law`).
+    pub fn list(
+        alloc: Global,
+        store: &Store,
+        a: Ref,
+        b: Ref,
+        most: u64,
+    ) -> Result<Graph, GraphError>
+        requires a_held { IsRef store.now.nodes a }
+        requires b_held { IsRef store.now.nodes b }
+        requires most { most < 2 ^ 32 }
+        ensures graph { IfOk result (λ graph. IsGraph store.now.nodes a b graph) }
+        ensures within { IfOk result (λ graph. length graph ≤ most) }
+        ensures full { result ≡ Err GraphError.PairsFull → PassesMost store.now.nodes a b most }
+    {
+        store.canonical_law();
+        if a.is_const() || b.is_const() {
+            return Ok(Graph {
+                pairs: Vec::new(alloc),
+            });
+        }
+        let list = all_pairs(alloc, store, a, b, most)?;
+        match by_level(alloc, list.into_pairs()) {
+            Ok(pairs) => Ok(Graph { pairs }),
+            Err(_) => Err(GraphError::NoMem),
+        }
+    }
+
+    /// The number of pairs.
+    pub fn len(&self) -> u32
+        ensures { result ≡ length self.now }
+    {
+        self.pairs.len() as u32
+    }
+
+    /// The functions of pair `k`.
+    pub fn pair(&self, k: u32) -> (Ref, Ref)
+        requires { k < length self.now }
+        ensures first { result.0 ≡ (pair_at self.now k).first }
+        ensures second { result.1 ≡ (pair_at self.now k).second }
+    {
+        let pair = &self.pairs[k as usize];
+        (pair.first, pair.second)
+    }
+
+    /// The level of pair `k`: the topmost at which one of its functions decides.
+    pub fn level(&self, k: u32) -> u32
+        requires { k < length self.now }
+        ensures { result ≡ (pair_at self.now k).level }
+    {
+        self.pairs[k as usize].level
+    }
+
+    /// What pair `k` becomes where its level's bit is 0, and where it is 1. The pairs that are named
+    /// come later in the list.
+    pub fn children(&self, k: u32) -> (Side, Side)
+        requires { k < length self.now }
+        ensures low { result.0 ≡ (pair_at self.now k).low }
+        ensures high { result.1 ≡ (pair_at self.now k).high }
+    {
+        let pair = &self.pairs[k as usize];
+        (pair.low, pair.high)
+    }
+
+    /// Whether pair `k` depends on no level above the given one.
+    pub fn settled(&self, k: u32, level: u32) -> bool
+        requires { k < length self.now }
+        ensures { IsTrue result ↔ (level ≤ (pair_at self.now k).level) }
+    {
+        level <= self.pairs[k as usize].level
+    }
+}

@@ -1,0 +1,11 @@
+// The laws of graphs.
+ghost use Rattle.std.specs.Prelude.{◌≤◌, ℕ, List, length};
+ghost use Rattle.blic_graph.specs.Pairs.{IsGraph, PassesMost};
+ghost use Rattle.blic_graph.specs.declared.pair.Pair.{Pair};
+ghost use Rattle.blic_store.specs.declared.decision.Decision.{Decision};
+
+/// Where two functions have more pairs than `most`, no list within `most` has them all.
+pub fn pairs_full_law()
+    ensures { (nodes : List Decision) (a b most : ℕ) (pairs : List Pair) → IsGraph nodes a b pairs
+        → length pairs ≤ most → PassesMost nodes a b most → ⊥ }
+{}

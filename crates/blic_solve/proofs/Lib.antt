@@ -1,0 +1,12 @@
+mod Adding
+mod Answer
+mod DistinctCounts
+mod Grows
+mod Holds
+mod Members
+mod NodeSteps
+mod OperandPairs
+mod Pushed
+mod Sizes
+mod Subfunctions
+mod Tables

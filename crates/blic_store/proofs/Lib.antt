@@ -1,0 +1,12 @@
+pub mod Candidates
+pub mod Canonical
+pub mod Chains
+pub mod Cofactors
+pub mod Functions
+pub mod Levels
+pub mod Links
+pub mod Made
+pub mod Parts
+pub mod Pigeonhole
+pub mod Room
+pub mod Under

@@ -1,0 +1,7 @@
+pub mod Canonical
+pub mod Diagram
+pub mod Function
+pub mod Growth
+pub mod Store
+pub mod Under
+pub mod UniqueTable

@@ -1,0 +1,12 @@
+// The inner nodes of diagrams.
+
+use crate::reference::Ref;
+
+/// An inner node of a diagram: the function of `low` where the level's bit is 0, and that of `high`
+/// where it is 1.
+#[derive(Clone, Copy, Debug, PartialEq, Eq)]
+pub struct Decision {
+    pub level: u32,
+    pub low: Ref,
+    pub high: Ref,
+}

@@ -1,0 +1,5 @@
+use Rattle.std.proofs.Common.{◌≡◌, ◌<◌, ◌+◌, ℕ, get_or}
+use Rattle.blic_verifier.proofs.held.Held.first_other.Given as goal
+
+abbrev pub invariant-loop-c : goal.invariant-loop-c
+invariant-loop-c l = (d : ℕ) → d < l.c → get_or l.self.values.items (l.row.first + d) 0 ≡ l.value

@@ -1,0 +1,11 @@
+pub mod Acceptance
+pub mod Accepting
+pub mod Fitted
+pub mod Holding
+pub mod HonestLaws
+pub mod Soundness
+pub mod SoundnessLaws
+pub mod Standing
+pub mod Verdict
+pub mod VerdictLaws
+pub mod Walking

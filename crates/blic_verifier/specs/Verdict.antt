@@ -1,0 +1,107 @@
+-- What is said of the next reply of a conversation.
+use Rattle.std.specs.Prelude.{ℕ, ◌≡◌, zero, suc, ◌+◌, Bool, true, false, cond, ◌==◌, nat_lt, List, [], ◌∷◌, ◌++◌, slice_index_or, length, min, filter, find, Option, Some, None}
+use Rattle.blic_model.specs.declared.node.Node.{Node}
+use Rattle.blic_model.specs.Counts.{claims}
+use Rattle.blic_messages.specs.Replies.{Said, Answer, Polys, Values, Refused}
+use Rattle.blic_claims.specs.Claims.{Transcript}
+use Rattle.blic_claims.specs.Turns.{Turn, ForPolys, ForValues, Reply, turns, transcript}
+use Rattle.blic_claims.specs.Turns.{Polys as PolysReply, Values as ValuesReply}
+use Rattle.blic_model.specs.Circuit.{OrderedCircuit}
+use Rattle.blic_verifier.specs.Acceptance.{Check, checks, fails, Passes}
+use Rattle.blic_verifier.specs.declared.place.Place.{Place}
+use Rattle.blic_verifier.specs.declared.next.Next.{Next}
+use Rattle.blic_verifier.specs.declared.next.Next.TheVariants.{Draw, Go, Done, Rejected, WrongKind, WrongCount}
+
+-- what was said so far: nothing, or an answer with draws and replies
+pub data Talk : Type 0 where
+  Silent : Talk
+  Talked : Bool → List ℕ → List Reply → Talk
+
+-- the conditions that the first n replies show, the answer among them
+abbrev pub checks_upto : List Node → ℕ → Transcript → ℕ → List Check
+checks_upto nodes levels T n = filter (λ c. nat_lt c.reply n) (checks nodes levels T)
+
+-- the first of them that fails
+abbrev pub fault_upto : List Node → ℕ → Transcript → ℕ → Option Check
+fault_upto nodes levels T n = find fails (checks_upto nodes levels T n)
+
+abbrev pub is_polys : Turn → Bool
+is_polys (ForPolys k i) = true
+is_polys (ForValues k) = false
+
+-- whether a draw stands after n replies: where the last of them was for polynomials
+abbrev pub wants_draw_after : List Turn → ℕ → Bool
+wants_draw_after ts zero = false
+wants_draw_after ts (suc t) = is_polys (slice_index_or ts t (ForValues 0))
+
+abbrev pub place_of : Check → Place
+place_of c = record { node = c.node; part = c.part; claim = c.claim }
+
+-- of replies that fit their turns: the first condition that fails, else what stands next
+abbrev pub judged : List Node → ℕ → Bool → List ℕ → List Reply → Next
+judged nodes levels answer draws replies =
+    elim (fault_upto nodes levels (transcript nodes levels answer draws replies) (suc (length replies))) [
+      | Some c ↦ Rejected (place_of c)
+      | None ↦ cond (length replies == length (turns nodes levels)) (Done answer) (cond (wants_draw_after (turns nodes levels) (length replies)) Draw Go)
+    ]
+
+-- a number of polynomials as it is told, in 32 bits
+abbrev pub told_count : ℕ → ℕ
+told_count n = min n 4294967295
+
+-- a reply that doesn't fit its turn, whose number is t, is refused before anything is checked
+abbrev pub judged_at : List Node → ℕ → Turn → Reply → Next → Next
+judged_at nodes t (ForPolys k i) (PolysReply ps) next = cond (length ps == claims nodes k) next (WrongCount t (claims nodes k) (told_count (length ps)))
+judged_at nodes t (ForPolys k i) (ValuesReply u w) next = WrongKind t
+judged_at nodes t (ForValues k) (PolysReply ps) next = WrongKind t
+judged_at nodes t (ForValues k) (ValuesReply u w) next = next
+
+-- one more reply after the answer, the draws and the replies
+unfoldable pub verdict : List Node → ℕ → Bool → List ℕ → List Reply → Reply → Next
+verdict nodes levels answer draws replies reply =
+    judged_at nodes (suc (length replies)) (slice_index_or (turns nodes levels) (length replies) (ForValues 0)) reply
+    (judged nodes levels answer draws (replies ++ reply ∷ []))
+
+-- the answer is told first, and once
+abbrev pub next_after : List Node → ℕ → Talk → Said → Next
+next_after nodes levels Silent (Answer b) = judged nodes levels b [] []
+next_after nodes levels Silent (Polys ps) = WrongKind 0
+next_after nodes levels Silent (Values u w) = WrongKind 0
+next_after nodes levels Silent (Refused r) = WrongKind 0
+next_after nodes levels (Talked b draws replies) (Answer c) = WrongKind (suc (length replies))
+next_after nodes levels (Talked b draws replies) (Polys ps) = verdict nodes levels b draws replies (PolysReply ps)
+next_after nodes levels (Talked b draws replies) (Values u w) = verdict nodes levels b draws replies (ValuesReply u w)
+next_after nodes levels (Talked b draws replies) (Refused r) = WrongKind (suc (length replies))
+
+-- the talk with a reply added, if it is of a kind that can stand there
+abbrev pub with_reply : Talk → Said → Talk
+with_reply Silent (Answer b) = Talked b [] []
+with_reply Silent (Polys ps) = Silent
+with_reply Silent (Values u w) = Silent
+with_reply Silent (Refused r) = Silent
+with_reply (Talked b draws replies) (Answer c) = Talked b draws replies
+with_reply (Talked b draws replies) (Polys ps) = Talked b draws (replies ++ PolysReply ps ∷ [])
+with_reply (Talked b draws replies) (Values u w) = Talked b draws (replies ++ ValuesReply u w ∷ [])
+with_reply (Talked b draws replies) (Refused r) = Talked b draws replies
+
+-- the talk with a draw added
+abbrev pub with_draw : Talk → ℕ → Talk
+with_draw Silent r = Silent
+with_draw (Talked b draws replies) r = Talked b (draws ++ r ∷ []) replies
+
+-- whether the reply was of the kind and length that stood there
+abbrev pub is_in_turn : Next → Bool
+is_in_turn (WrongKind t) = false
+is_in_turn (WrongCount t want got) = false
+is_in_turn _ = true
+
+-- whether it ends the conversation
+abbrev pub is_verdict : Next → Bool
+is_verdict Draw = false
+is_verdict Go = false
+is_verdict _ = true
+
+-- the whole talk is accepted, with this answer
+abbrev pub IsAcceptedAs : OrderedCircuit → Bool → Talk → Type 0
+IsAcceptedAs c b Silent = ⊥
+IsAcceptedAs c b (Talked answer draws replies) = (b ≡ answer) × Passes c.nodes (length c.order) answer draws replies

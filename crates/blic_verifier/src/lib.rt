@@ -1,0 +1,23 @@
+//! A verifier whose verdict is acceptance of the whole conversation.
+#![tactic(auto)]
+
+mod held;
+mod honest;
+mod laws;
+mod next;
+mod place;
+mod soundness;
+mod stage;
+mod verifier;
+
+pub use honest::acceptance_law;
+pub use laws::verdict_law;
+pub use next::Next;
+pub use place::{Part, Place};
+pub use soundness::{bad_count_law, soundness_law};
+pub use verifier::Verifier;
+
+#[cfg(test)]
+mod judged;
+#[cfg(test)]
+mod tests;
