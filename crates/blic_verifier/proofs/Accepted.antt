@@ -1,11 +1,7 @@
 -- The law of acceptance over lists of draws and replies.
-use Rattle.std.proofs.Common.{arith, ℕ, ◌≡◌, ◌<◌, refl, ◌∙◌, sym, ap, subst, List, length, Bool, true, false}
-use Rattle.blic_field.specs.Field.{modulus}
+use Rattle.std.proofs.Common.{◌≡◌, ◌∙◌, subst, length}
 use Rattle.blic_model.specs.Building.{circuit_of}
-use Rattle.blic_model.specs.Formula.{PrenexFormula}
-use Rattle.blic_model.specs.Limits.{IsFormula}
 use Rattle.blic_model.specs.Truth.{truth}
-use Rattle.blic_model.specs.Value.{bit}
 use Rattle.blic_model.proofs.Ordered.{ordered_all}
 use Rattle.blic_model.proofs.Shaped.{ordered_of}
 use Rattle.blic_model.proofs.FormulaShape.{formula_shaped}
@@ -15,7 +11,7 @@ use Rattle.blic_claims.proofs.Drawn.{levelled_from_shape}
 use Rattle.blic_claims.proofs.SomeClaim.{some_claim_law}
 use Rattle.blic_claims.proofs.HonestReplies.{answer_honest}
 use Rattle.blic_verifier.specs.Acceptance.{Passes}
-use Rattle.blic_verifier.specs.HonestLaws.{HonestRepliesPass, HonestRepliesPassWithTruth, AreDraws}
+use Rattle.blic_verifier.specs.HonestLaws.{HonestRepliesPass, HonestRepliesPassWithTruth}
 use Rattle.blic_verifier.proofs.OfElements.{draw_element}
 use Rattle.blic_verifier.proofs.HonestPasses.{honest_fits, honest_passes}
 use Rattle.blic_verifier.proofs.Sound.{root_truth, same_bit}

@@ -1,29 +1,28 @@
 -- Where all replies are there, each condition is shown, and acceptance is said.
-use Rattle.std.proofs.Common.{arith, ℕ, zero, suc, ◌≡◌, ◌+◌, ◌-◌, ◌<◌, ◌≤◌, refl, sym, ◌∙◌, ap, subst, inl, inr, List, [], ◌∷◌, ◌++◌, length, get_or, take, Bool, true, false, cond, eqb}
-use Rattle.std.specs.Prelude.{filter, find, flat_map, reverse, All, Option, Some, None, not}
+use Rattle.std.proofs.Common.{arith, ℕ, zero, suc, ◌≡◌, ◌+◌, ◌-◌, ◌<◌, ◌≤◌, refl, sym, ◌∙◌, ap, subst, inl, inr, List, [], ◌∷◌, length, take, Bool, true, false, cond, eqb}
+use Rattle.std.specs.Prelude.{filter, find, All, Option, Some, None, not}
 use Rattle.std.specs.List.{AllZip}
 use Rattle.std.proofs.lemmas.Bool.{cases_eq, eq-eqb, ne_eqb, eqb-true, cond-true, cond-false}
 use Rattle.std.proofs.lemmas.List.{take_all}
-use Rattle.std.proofs.lemmas.List.Elements.{All-nil, All-cons, All-head, All-tail, length_all_zip}
+use Rattle.std.proofs.lemmas.List.Elements.{All-nil, All-cons, All-head, All-tail}
 use Rattle.std.proofs.lemmas.Slice.Zip.{AllZip-long}
 use Rattle.blic_model.specs.declared.node.Node.{Node}
-use Rattle.blic_model.specs.Circuit.{node_at, below, free}
+use Rattle.blic_model.specs.Circuit.{node_at, free}
 use Rattle.blic_model.specs.Counts.{is_binary, draws as draw_count}
 use Rattle.blic_claims.specs.Claims.{Transcript, claims_on}
-use Rattle.blic_claims.specs.Turns.{Turn, ForValues, Reply, Fits, AllFit, node_turns, turns, transcript, sum_above, replies_above, values_number}
-use Rattle.blic_claims.proofs.Turns.{above, above-own, above_step, length-node_turns, sum_above_is, values_turn, values_below, values_first}
-use Rattle.blic_verifier.specs.Acceptance.{Check, checks, fails, AllHold, Passes}
+use Rattle.blic_claims.specs.Turns.{Reply, Fits, turns, transcript, replies_above, values_number}
+use Rattle.blic_claims.proofs.Turns.{above, above-own, above_step, sum_above_is, values_turn, values_below}
+use Rattle.blic_verifier.specs.Acceptance.{Check, checks, fails, Passes}
 use Rattle.blic_verifier.specs.Verdict.{fault_upto, judged, is_polys, wants_draw_after, place_of}
 use Rattle.blic_verifier.specs.VerdictLaws.{DoneIsAcceptance}
 use Rattle.blic_verifier.specs.Walking.{conditions, IsWalking}
-use Rattle.blic_verifier.specs.declared.next.Next.{Next}
 use Rattle.blic_verifier.specs.declared.next.Next.TheVariants.{Draw, Go, Done, Rejected}
 use Rattle.blic_verifier.proofs.Finding.{filter_parts_upto}
 use Rattle.blic_verifier.proofs.ShownKept.{is_shown}
 use Rattle.blic_verifier.proofs.Shown.{shown_all}
 use Rattle.blic_verifier.proofs.Clear.{clear_all}
 use Rattle.blic_verifier.proofs.Stopping.{start_same, start_next, walk_stop}
-use Rattle.blic_verifier.proofs.Judging.{judged_fault, judged_fine}
+use Rattle.blic_verifier.proofs.Judging.{judged_fine}
 use Rattle.blic_verifier.proofs.Totals.{all_turns}
 
 -- a condition that doesn't fail holds
@@ -39,7 +38,8 @@ pub all_hold : (cs : List Check) → find fails cs ≡ None → All (λ c. c.lef
 all_hold [] e = All-nil (λ c. c.left ≡ c.right)
 all_hold (c ∷ cs) e = go (fails c) refl e (all_hold cs)
   where
-    go : (b : Bool) → fails c ≡ b → cond b (Some c) (find fails cs) ≡ None → (find fails cs ≡ None → All (λ c. c.left ≡ c.right) cs) → All (λ c. c.left ≡ c.right) (c ∷ cs)
+    go : (b : Bool) → fails c ≡ b → cond b (Some c) (find fails cs) ≡ None → (find fails cs ≡ None → All (λ c. c.left ≡ c.right) cs)
+        → All (λ c. c.left ≡ c.right) (c ∷ cs)
     go true q e h = absurd (cc e)
     go false q e h = All-cons (λ c. c.left ≡ c.right) c cs (holds_from c q) (h e)
 
@@ -61,7 +61,8 @@ replies_above_most nodes levels k l =
     ]
 
 -- each condition is shown by the replies of all turns
-pub all_shown : (nodes : List Node) (levels : ℕ) (T : Transcript) (n : ℕ) → length (turns nodes levels) < n → filter (is_shown n) (checks nodes levels T) ≡ checks nodes levels T
+pub all_shown : (nodes : List Node) (levels : ℕ) (T : Transcript) (n : ℕ) → length (turns nodes levels) < n
+    → filter (is_shown n) (checks nodes levels T) ≡ checks nodes levels T
 unfolding checks
 all_shown nodes levels T n l =
     filter_parts_upto (is_shown n) (conditions nodes levels T) (length nodes) (λ k lk.
@@ -69,7 +70,8 @@ all_shown nodes levels T n l =
     (λ b. omega (arith, values_below nodes levels k lk b)) (omega (arith, replies_above_most nodes levels k lk)))
 
 -- with all replies and draws, and no fault, the conversation passes
-pub passes_from : (nodes : List Node) (levels : ℕ) (answer : Bool) (draws : List ℕ) (replies : List Reply) → length draws ≡ draw_count nodes levels → AllZip (Fits nodes) (turns nodes levels) replies
+pub passes_from : (nodes : List Node) (levels : ℕ) (answer : Bool) (draws : List ℕ) (replies : List Reply) → length draws ≡ draw_count nodes levels
+    → AllZip (Fits nodes) (turns nodes levels) replies
     → fault_upto nodes levels (transcript nodes levels answer draws replies) (suc (length replies)) ≡ None → Passes nodes levels answer draws replies
 passes_from nodes levels answer draws replies d f e =
     let n : length replies ≡ length (turns nodes levels) = AllZip-long (Fits nodes) (turns nodes levels) replies f in
@@ -91,7 +93,8 @@ done_is_acceptance nodes levels answer draws replies d f =
     none (Some c) e = absurd (cc e)
 
 -- the walk below node 0 ends with acceptance
-pub end_said : (nodes : List Node) (levels : ℕ) (answer : Bool) (draws : List ℕ) (replies : List Reply) (x : ℕ → ℕ → ℕ → ℕ) (v : ℕ → ℕ → ℕ) → IsWalking nodes levels answer draws replies 0 x v
+pub end_said : (nodes : List Node) (levels : ℕ) (answer : Bool) (draws : List ℕ) (replies : List Reply) (x : ℕ → ℕ → ℕ → ℕ) (v : ℕ → ℕ → ℕ)
+    → IsWalking nodes levels answer draws replies 0 x v
     → (judged nodes levels answer draws replies ≡ Done answer) × Passes nodes levels answer draws replies
 end_said nodes levels answer draws replies x v w =
     let T = transcript nodes levels answer draws replies in
@@ -108,14 +111,16 @@ before_node nodes levels zero k e =
     ap (wants_draw_after (turns nodes levels)) (sum_above_is nodes (λ j. length (free nodes levels j) + 1) k ∙ above-own (λ j. cond (is_binary (node_at nodes j)) (length (free nodes levels j) + 1) 0) (length nodes) k (omega arith))
 before_node nodes levels (suc n) k e = go (is_binary (node_at nodes (suc k))) refl (before_node nodes levels n (suc k) (omega arith))
   where
-    go : (b : Bool) → is_binary (node_at nodes (suc k)) ≡ b → wants_draw_after (turns nodes levels) (replies_above nodes levels (suc k)) ≡ false → wants_draw_after (turns nodes levels) (replies_above nodes levels k) ≡ false
+    go : (b : Bool) → is_binary (node_at nodes (suc k)) ≡ b → wants_draw_after (turns nodes levels) (replies_above nodes levels (suc k)) ≡ false
+        → wants_draw_after (turns nodes levels) (replies_above nodes levels k) ≡ false
     go false b h = ap (wants_draw_after (turns nodes levels)) (start_same nodes (λ j. length (free nodes levels j) + 1) k (omega arith) b) ∙ h
     go true b h =
         let s : replies_above nodes levels k ≡ suc (values_number nodes levels (suc k)) = (let u = start_next nodes (λ j. length (free nodes levels j) + 1) k (omega arith) b in omega arith) in
         ap (wants_draw_after (turns nodes levels)) s ∙ ap is_polys (values_turn nodes levels (suc k) (omega arith) b)
 
 -- at a binary node the next reply is asked for
-pub stop_said : (nodes : List Node) (levels : ℕ) (answer : Bool) (draws : List ℕ) (replies : List Reply) (k : ℕ) (x : ℕ → ℕ → ℕ → ℕ) (v : ℕ → ℕ → ℕ) → is_binary (node_at nodes k) ≡ true
+pub stop_said : (nodes : List Node) (levels : ℕ) (answer : Bool) (draws : List ℕ) (replies : List Reply) (k : ℕ) (x : ℕ → ℕ → ℕ → ℕ) (v : ℕ → ℕ → ℕ)
+    → is_binary (node_at nodes k) ≡ true
     → IsWalking nodes levels answer draws replies (suc k) x v → judged nodes levels answer draws replies ≡ Go
 stop_said nodes levels answer draws replies k x v b w =
     let r = walk_stop nodes levels answer draws replies k x v b w in

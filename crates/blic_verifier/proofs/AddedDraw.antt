@@ -1,27 +1,24 @@
 -- The draw after a reply of polynomials.
-use Rattle.std.proofs.Common.{arith, ℕ, zero, suc, ◌≡◌, ◌+◌, ◌-◌, ◌<◌, ◌≤◌, refl, sym, ◌∙◌, ap, subst, inl, inr, List, [], ◌∷◌, ◌++◌, length, get_or, drop, Bool, true, false, cond, eqb, ◌&&◌}
+use Rattle.std.proofs.Common.{arith, ℕ, suc, ◌≡◌, ◌+◌, ◌<◌, refl, sym, ◌∙◌, ap, subst, inl, inr, List, [], ◌∷◌, ◌++◌, length, get_or, Bool, true, false, cond, eqb, ◌&&◌}
 use Rattle.std.proofs.lemmas.Bool.{cases_eq, cases_lt, eq-eqb, ne_eqb, cond-true, cond-false}
 use Rattle.std.proofs.lemmas.List.{get_or_append_left, get_or_push, length_push}
-use Rattle.std.specs.Prelude.{None}
 use mathlib.Core.Path.{ap₂}
 use Rattle.blic_field.specs.Quadratic.{Quadratic, at}
 use Rattle.blic_model.proofs.Put.{put_here, put_other}
-use Rattle.blic_model.specs.Circuit.{node_at, free, root}
+use Rattle.blic_model.specs.Circuit.{node_at, free}
 use Rattle.blic_model.specs.Counts.{is_binary, claims}
-use Rattle.blic_model.specs.Value.{put, Point}
+use Rattle.blic_model.specs.Value.{put}
 use Rattle.blic_model.specs.declared.node.Node.{Node}
 use Rattle.blic_claims.proofs.Agreement.{AgreeAt, claims_agree, node_point_agree, point_at_agree}
 use Rattle.blic_claims.proofs.Drawn.{point_at_more, free_rise}
 use Rattle.blic_claims.proofs.HandedClaims.{few_given}
 use Rattle.blic_claims.proofs.Turns.{values_first, draws_first, binary_inside}
-use Rattle.blic_claims.specs.Claims.{Transcript, Claim, claims_on, no_claim, node_point, point_at}
-use Rattle.blic_claims.specs.Places.{given}
-use Rattle.blic_claims.specs.Turns.{sum_above, draw_number, polys_number, values_number, Reply, transcript, replies_above}
+use Rattle.blic_claims.specs.Claims.{Claim, claims_on, no_claim, point_at}
+use Rattle.blic_claims.specs.Turns.{draw_number, polys_number, Reply, transcript}
 use Rattle.blic_verifier.proofs.AddedReply.{held_kept, sound_kept}
 use Rattle.blic_verifier.proofs.ShownKept.{Agree}
 use Rattle.blic_verifier.specs.Acceptance.{no_poly, sent, value_at}
-use Rattle.blic_verifier.specs.Standing.{count_from, AreHeld, HasPoints, HasValues, IsReady, IsDrawing}
-use Rattle.blic_verifier.specs.Verdict.{fault_upto}
+use Rattle.blic_verifier.specs.Standing.{IsReady, IsDrawing}
 
 -- the draws before the last are the same
 draw_kept : (nodes : List Node) (levels : ℕ) (answer : Bool) (draws : List ℕ) (replies : List Reply) (r j m : ℕ) → draw_number nodes levels j m < length draws
@@ -34,14 +31,16 @@ draw_new : (nodes : List Node) (levels : ℕ) (answer : Bool) (draws : List ℕ)
 unfolding transcript
 draw_new nodes levels answer draws replies r k i e = get_or_push draws r 0 (draw_number nodes levels k i) e
 
-above_draw : (nodes : List Node) (levels : ℕ) (answer : Bool) (draws : List ℕ) (replies : List Reply) (r k i : ℕ) → length draws ≡ draw_number nodes levels k i → (j : ℕ) → k < j
+above_draw : (nodes : List Node) (levels : ℕ) (answer : Bool) (draws : List ℕ) (replies : List Reply) (r k i : ℕ)
+    → length draws ≡ draw_number nodes levels k i → (j : ℕ) → k < j
     → AgreeAt nodes levels (transcript nodes levels answer draws replies) (transcript nodes levels answer (draws ++ r ∷ []) replies) j
 unfolding transcript
 above_draw nodes levels answer draws replies r k i e j h b =
     let d = draws_first nodes levels k j h (binary_inside nodes j b) b in
     (refl, node_point_agree nodes levels (transcript nodes levels answer draws replies) (transcript nodes levels answer (draws ++ r ∷ []) replies) j (λ m l. draw_kept nodes levels answer draws replies r j m (omega arith)))
 
-agree_draw : (nodes : List Node) (levels : ℕ) (answer : Bool) (draws : List ℕ) (replies : List Reply) (r k i : ℕ) → k < length nodes → is_binary (node_at nodes k) ≡ true → i < length (free nodes levels k)
+agree_draw : (nodes : List Node) (levels : ℕ) (answer : Bool) (draws : List ℕ) (replies : List Reply) (r k i : ℕ) → k < length nodes
+    → is_binary (node_at nodes k) ≡ true → i < length (free nodes levels k)
     → length draws ≡ draw_number nodes levels k i → length replies ≡ polys_number nodes levels k i + 1
     → Agree nodes levels (transcript nodes levels answer draws replies) (transcript nodes levels answer (draws ++ r ∷ []) replies) (suc (length replies))
 unfolding transcript
@@ -52,7 +51,8 @@ agree_draw nodes levels answer draws replies r k i lk bk li ed er = record {
   draws = λ j m b l h. draw_kept nodes levels answer draws replies r j m (earlier j m b l h);
 }
   where
-    earlier : (j m : ℕ) → is_binary (node_at nodes j) ≡ true → m < length (free nodes levels j) → polys_number nodes levels j m + 2 < suc (length replies) → draw_number nodes levels j m < length draws
+    earlier : (j m : ℕ) → is_binary (node_at nodes j) ≡ true → m < length (free nodes levels j)
+        → polys_number nodes levels j m + 2 < suc (length replies) → draw_number nodes levels j m < length draws
     earlier j m b l h = elim (cases_lt k j) [
       | inl q ↦ (let d = draws_first nodes levels k j q (binary_inside nodes j b) b in omega arith)
       | inr q ↦ elim (cases_eq j k) [
@@ -61,7 +61,8 @@ agree_draw nodes levels answer draws replies r k i lk bk li ed er = record {
       ]
     ]
       where
-        same : (j m : ℕ) → j ≡ k → m < length (free nodes levels j) → polys_number nodes levels j m + 2 < suc (length replies) → draw_number nodes levels j m < length draws
+        same : (j m : ℕ) → j ≡ k → m < length (free nodes levels j) → polys_number nodes levels j m + 2 < suc (length replies)
+            → draw_number nodes levels j m < length draws
         same j m e l h =
             subst (λ z. draw_number nodes levels z m < length draws) (sym e)
             (let l2 : m < length (free nodes levels k) = subst (λ z. m < length (free nodes levels z)) e l in
@@ -69,7 +70,8 @@ agree_draw nodes levels answer draws replies r k i lk bk li ed er = record {
             omega arith)
 
 -- the claim's point, a draw later
-own_point : (nodes : List Node) (levels : ℕ) (answer : Bool) (draws : List ℕ) (replies : List Reply) (k i r f e : ℕ) (cl : Claim) → i < length (free nodes levels k) → length draws ≡ draw_number nodes levels k i → f < length (free nodes levels k)
+own_point : (nodes : List Node) (levels : ℕ) (answer : Bool) (draws : List ℕ) (replies : List Reply) (k i r f e : ℕ) (cl : Claim)
+    → i < length (free nodes levels k) → length draws ≡ draw_number nodes levels k i → f < length (free nodes levels k)
     → e ≡ point_at nodes levels (transcript nodes levels answer draws replies) k cl (i + 1) (get_or (free nodes levels k) f 0)
     → cond (eqb k k && eqb f i) r e ≡ point_at nodes levels (transcript nodes levels answer (draws ++ r ∷ []) replies) k cl i (get_or (free nodes levels k) f 0)
 own_point nodes levels answer draws replies k i r f e cl li ed lf he =
@@ -103,16 +105,19 @@ own_point nodes levels answer draws replies k i r f e cl li ed lf he =
       | inr q ↦ (let u = free_rise nodes levels k i f (omega arith) lf in omega arith)
     ]
 
-sent_same : (nodes : List Node) (levels : ℕ) (answer : Bool) (draws : List ℕ) (replies : List Reply) (r k i c : ℕ) → sent (transcript nodes levels answer draws replies) k i c ≡ sent (transcript nodes levels answer (draws ++ r ∷ []) replies) k i c
+sent_same : (nodes : List Node) (levels : ℕ) (answer : Bool) (draws : List ℕ) (replies : List Reply) (r k i c : ℕ)
+    → sent (transcript nodes levels answer draws replies) k i c ≡ sent (transcript nodes levels answer (draws ++ r ∷ []) replies) k i c
 unfolding transcript
 sent_same nodes levels answer draws replies r k i c = refl
 
-answer_same : (nodes : List Node) (levels : ℕ) (answer : Bool) (draws : List ℕ) (replies : List Reply) (r : ℕ) → (transcript nodes levels answer draws replies).answer ≡ (transcript nodes levels answer (draws ++ r ∷ []) replies).answer
+answer_same : (nodes : List Node) (levels : ℕ) (answer : Bool) (draws : List ℕ) (replies : List Reply) (r : ℕ)
+    → (transcript nodes levels answer draws replies).answer ≡ (transcript nodes levels answer (draws ++ r ∷ []) replies).answer
 unfolding transcript
 answer_same nodes levels answer draws replies r = refl
 
 -- the value carried over the draw
-value_at_drawn : (nodes : List Node) (levels : ℕ) (answer : Bool) (draws : List ℕ) (replies : List Reply) (k i r c : ℕ) (cl : Claim) → i < length (free nodes levels k) → length draws ≡ draw_number nodes levels k i
+value_at_drawn : (nodes : List Node) (levels : ℕ) (answer : Bool) (draws : List ℕ) (replies : List Reply) (k i r c : ℕ) (cl : Claim)
+    → i < length (free nodes levels k) → length draws ≡ draw_number nodes levels k i
     → at (sent (transcript nodes levels answer draws replies) k i c) r ≡ value_at nodes levels (transcript nodes levels answer (draws ++ r ∷ []) replies) k c cl i
 value_at_drawn nodes levels answer draws replies k i r c cl li ed =
     let S = transcript nodes levels answer (draws ++ r ∷ []) replies in

@@ -1,23 +1,21 @@
 -- What a transcript keeps when a reply is added.
-use Rattle.std.proofs.Common.{arith, ℕ, zero, suc, ◌≡◌, ◌+◌, ◌-◌, ◌<◌, ◌≤◌, refl, sym, ◌∙◌, ap, subst, inl, inr, List, [], ◌∷◌, ◌++◌, length, get_or, Bool, true, false, cond, eqb}
+use Rattle.std.proofs.Common.{arith, ℕ, suc, ◌≡◌, ◌-◌, ◌<◌, ◌≤◌, refl, sym, ◌∙◌, ap, subst, inl, inr, List, [], ◌∷◌, ◌++◌, length, get_or, Bool, cond}
 use Rattle.std.proofs.lemmas.Bool.{cases_lt, ne_eqb}
-use Rattle.std.proofs.lemmas.List.{get_or_append_left, length-append}
-use Rattle.std.specs.Prelude.{map, flat_map, find, None, Option}
-use mathlib.Core.Path.{ap₂}
+use Rattle.std.proofs.lemmas.List.{get_or_append_left}
+use Rattle.std.specs.Prelude.{flat_map, find, None}
 use Rattle.blic_model.specs.Circuit.{node_at, below, free, root}
-use Rattle.blic_model.specs.Counts.{is_binary, claims}
 use Rattle.blic_model.specs.declared.node.Node.{Node}
 use Rattle.blic_claims.proofs.Agreement.{AgreeAt, handed_agree, claims_agree}
 use Rattle.blic_claims.proofs.HandedClaims.{handed_by, claims_is, given_is, entry_left}
 use Rattle.blic_claims.proofs.Lists.{flat_map_agree, below_contains}
 use Rattle.blic_claims.proofs.Turns.{values_first, binary_inside}
-use Rattle.blic_claims.specs.Claims.{Transcript, Claim, claims_from, claims_on, no_claim, node_point, point_at}
+use Rattle.blic_claims.specs.Claims.{Transcript, claims_on, no_claim, node_point}
 use Rattle.blic_claims.specs.Places.{given}
-use Rattle.blic_claims.specs.Turns.{sum_above, polys_number, values_number, Reply, transcript, polys_of, values_of, no_reply, replies_above}
+use Rattle.blic_claims.specs.Turns.{polys_number, values_number, Reply, transcript, polys_of, values_of, no_reply, replies_above}
 use Rattle.blic_verifier.proofs.ShownKept.{Agree, checks_kept}
-use Rattle.blic_verifier.specs.Acceptance.{Check, fails}
-use Rattle.blic_verifier.specs.Standing.{count_from, AreHeld, HasPoints}
-use Rattle.blic_verifier.specs.Verdict.{fault_upto, checks_upto}
+use Rattle.blic_verifier.specs.Acceptance.{fails}
+use Rattle.blic_verifier.specs.Standing.{count_from, AreHeld}
+use Rattle.blic_verifier.specs.Verdict.{fault_upto}
 
 -- a reply more: the first replies and all draws are the same
 pub agree_reply : (nodes : List Node) (levels : ℕ) (answer : Bool) (draws : List ℕ) (replies : List Reply) (r : Reply)
@@ -31,7 +29,8 @@ agree_reply nodes levels answer draws replies r = record {
 }
 
 -- the nodes above k agree
-pub agree_above : (nodes : List Node) (levels : ℕ) (answer : Bool) (draws : List ℕ) (replies : List Reply) (r : Reply) (k : ℕ) → replies_above nodes levels k ≤ length replies
+pub agree_above : (nodes : List Node) (levels : ℕ) (answer : Bool) (draws : List ℕ) (replies : List Reply) (r : Reply) (k : ℕ)
+    → replies_above nodes levels k ≤ length replies
     → (j : ℕ) → k < j → AgreeAt nodes levels (transcript nodes levels answer draws replies) (transcript nodes levels answer draws (replies ++ r ∷ [])) j
 unfolding transcript node_point
 agree_above nodes levels answer draws replies r k s j h b =
@@ -39,7 +38,8 @@ agree_above nodes levels answer draws replies r k s j h b =
     (ap values_of (sym (get_or_append_left replies (r ∷ []) no_reply (values_number nodes levels j) (omega arith))), refl)
 
 -- claims that come from the nodes above k are the same
-pub early_same : (nodes : List Node) (levels : ℕ) (T S : Transcript) (k a c : ℕ) → T.answer ≡ S.answer → k ≤ root nodes → a ≤ k → ((j : ℕ) → k < j → AgreeAt nodes levels T S j) → c < count_from nodes (suc k) a
+pub early_same : (nodes : List Node) (levels : ℕ) (T S : Transcript) (k a c : ℕ) → T.answer ≡ S.answer → k ≤ root nodes → a ≤ k
+    → ((j : ℕ) → k < j → AgreeAt nodes levels T S j) → c < count_from nodes (suc k) a
     → get_or (claims_on nodes levels T a) c no_claim ≡ get_or (claims_on nodes levels S a) c no_claim
 unfolding handed_by
 early_same nodes levels T S k a c e lk la h l = elim (cases_lt a (root nodes)) [
@@ -64,7 +64,8 @@ early_same nodes levels T S k a c e lk la h l = elim (cases_lt a (root nodes)) [
     below_root nodes k a c q l = subst (λ b. c < cond b 1 (given nodes k a)) (ne_eqb a (root nodes) (λ e. omega arith)) l
 
 -- what is stored stays true
-pub held_kept : (nodes : List Node) (levels : ℕ) (T S : Transcript) (k bound : ℕ) (x : ℕ → ℕ → ℕ → ℕ) (v : ℕ → ℕ → ℕ) → T.answer ≡ S.answer → k ≤ root nodes → bound ≤ suc k → ((j : ℕ) → k < j → AgreeAt nodes levels T S j)
+pub held_kept : (nodes : List Node) (levels : ℕ) (T S : Transcript) (k bound : ℕ) (x : ℕ → ℕ → ℕ → ℕ) (v : ℕ → ℕ → ℕ) → T.answer ≡ S.answer
+    → k ≤ root nodes → bound ≤ suc k → ((j : ℕ) → k < j → AgreeAt nodes levels T S j)
     → AreHeld nodes levels T (suc k) bound x v → AreHeld nodes levels S (suc k) bound x v
 held_kept nodes levels T S k bound x v e lk lb h f = record {
   point = λ a c g la lc lg. f.point a c g la lc lg ∙ ap (λ z. z.point (get_or (free nodes levels a) g 0)) (early_same nodes levels T S k a c e lk (omega arith) h lc);
@@ -72,5 +73,6 @@ held_kept nodes levels T S k bound x v e lk lb h f = record {
 }
 
 -- no fault so far, whatever is added
-pub sound_kept : (nodes : List Node) (levels : ℕ) (T S : Transcript) (n : ℕ) → Agree nodes levels T S n → fault_upto nodes levels T n ≡ None → fault_upto nodes levels S n ≡ None
+pub sound_kept : (nodes : List Node) (levels : ℕ) (T S : Transcript) (n : ℕ) → Agree nodes levels T S n → fault_upto nodes levels T n ≡ None
+    → fault_upto nodes levels S n ≡ None
 sound_kept nodes levels T S n a e = ap (find fails) (sym (checks_kept nodes levels T S n a)) ∙ e

@@ -1,11 +1,10 @@
 -- A walk past a binary node, once its claims have met.
-use Rattle.std.proofs.Common.{arith, ℕ, zero, suc, ◌≡◌, ◌+◌, ◌-◌, ◌<◌, ◌≤◌, refl, sym, ◌∙◌, ap, subst, ◌⊎◌, inl, inr, List, [], ◌∷◌, ◌++◌, length, get_or, set, Bool, true, false, cond, eqb, ◌&&◌, ◌||◌, get_or-set_same, get_or-set_other}
-use Rattle.std.specs.Prelude.{sum_by, Contains}
+use Rattle.std.proofs.Common.{arith, ℕ, suc, ◌≡◌, ◌+◌, ◌<◌, ◌≤◌, refl, sym, ◌∙◌, ap, subst, ◌⊎◌, inl, inr, List, [], ◌∷◌, ◌++◌, length, get_or, set, Bool, true, false, cond, eqb, ◌&&◌, ◌||◌, get_or-set_same, get_or-set_other}
+use Rattle.std.specs.Prelude.{sum_by}
 use mathlib.Core.Path.{ap₂}
 use Rattle.std.proofs.Math.ListN.{length-set}
-use Rattle.std.proofs.lemmas.Bool.{cases_eq, cases_lt, eq-eqb, ne_eqb, eqb-true, cond-true, cond-false, and_from}
+use Rattle.std.proofs.lemmas.Bool.{cases_eq, cases_lt, eq-eqb, ne_eqb, eqb-true, cond-true, and_from}
 use Rattle.std.proofs.lemmas.List.{get_or_push}
-use Rattle.blic_field.specs.Field.{mul, or}
 use Rattle.blic_model.specs.declared.node.Node.{Node}
 use Rattle.blic_model.specs.declared.node.Node.TheVariants.{Const, Var, Not, Fix, And, Or}
 use Rattle.blic_model.specs.Circuit.{OrderedCircuit, node_at, root, below, is_free, free}
@@ -14,10 +13,10 @@ use Rattle.blic_model.specs.Value.{Point}
 use Rattle.blic_model.specs.Shape.{IsShaped}
 use Rattle.blic_model.proofs.Ordered.{ChildrenBelow, ordered_all}
 use Rattle.blic_model.proofs.Shaped.{ordered_of}
-use Rattle.blic_claims.specs.Claims.{Transcript, Claim, claims_from, claims_on, claim_at, operand_claims, node_point, zero_point, point_at}
+use Rattle.blic_claims.specs.Claims.{Transcript, Claim, claims_from, claims_on, claim_at, node_point, zero_point, point_at}
 use Rattle.blic_claims.specs.Places.{given, places_of, layout_of, first_place, second_place}
 use Rattle.blic_claims.specs.Points.{PointTable, coordinate, IsPlace, stored_point, handed_point, HandsDown}
-use Rattle.blic_claims.specs.Turns.{Reply, Values, transcript, values_of, no_reply, values_number, replies_above}
+use Rattle.blic_claims.specs.Turns.{Reply, Values, transcript, values_of, no_reply, values_number}
 use Rattle.blic_claims.proofs.Drawn.{drawn_same}
 use Rattle.blic_claims.proofs.SomeClaim.{some_claim_law}
 use Rattle.blic_verifier.specs.Acceptance.{node_checks, binary_checks}
@@ -25,7 +24,7 @@ use Rattle.blic_verifier.specs.Standing.{AreHeld, IsReady}
 use Rattle.blic_verifier.specs.Walking.{conditions}
 use Rattle.blic_verifier.specs.Holding.{value_in, operands_of, joined, HasMet, WalksTo}
 use Rattle.blic_verifier.proofs.AddedReply.{agree_above, held_kept}
-use Rattle.blic_verifier.proofs.Handing.{hands, held_pair}
+use Rattle.blic_verifier.proofs.Handing.{held_pair}
 use Rattle.blic_verifier.proofs.ValuesReply.{values_fine}
 use Rattle.blic_verifier.proofs.Rows.{first_is, second_is, sum_apart, handed_within}
 use Rattle.blic_verifier.proofs.KeptPoints.{stored_is, free_is, free_contains, and_free, or_free}
@@ -52,7 +51,8 @@ pub pair_below : (nodes : List Node) (levels k a b : ℕ) → IsShaped nodes lev
 pair_below nodes levels k a b s (inl e) = subst (λ m. ChildrenBelow k m) e (ordered_all nodes (ordered_of nodes levels s) k)
 pair_below nodes levels k a b s (inr e) = subst (λ m. ChildrenBelow k m) e (ordered_all nodes (ordered_of nodes levels s) k)
 
-pair_free : (nodes : List Node) (levels k a b y : ℕ) → IsShaped nodes levels → IsPair (node_at nodes k) a b → (is_free nodes a y ≡ true) ⊎ (is_free nodes b y ≡ true) → is_free nodes k y ≡ true
+pair_free : (nodes : List Node) (levels k a b y : ℕ) → IsShaped nodes levels → IsPair (node_at nodes k) a b
+    → (is_free nodes a y ≡ true) ⊎ (is_free nodes b y ≡ true) → is_free nodes k y ≡ true
 pair_free nodes levels k a b y s (inl e) h = and_free nodes k a b y (ordered_all nodes (ordered_of nodes levels s) k) e h
 pair_free nodes levels k a b y s (inr e) h = or_free nodes k a b y (ordered_all nodes (ordered_of nodes levels s) k) e h
 
@@ -86,7 +86,8 @@ behind nodes k a b e z =
     omega (arith, one)
 
 -- the values that were just told
-pub told_values : (nodes : List Node) (levels : ℕ) (answer : Bool) (draws : List ℕ) (replies : List Reply) (k u w : ℕ) → length replies ≡ values_number nodes levels k
+pub told_values : (nodes : List Node) (levels : ℕ) (answer : Bool) (draws : List ℕ) (replies : List Reply) (k u w : ℕ)
+    → length replies ≡ values_number nodes levels k
     → (transcript nodes levels answer draws (replies ++ Values u w ∷ [])).values k ≡ (u, w)
 unfolding transcript
 told_values nodes levels answer draws replies k u w e = ap values_of (get_or_push replies (Values u w) no_reply (values_number nodes levels k) e)
@@ -104,7 +105,8 @@ pair_checks nodes levels T k a b (inr e) =
     ap (λ m. node_checks nodes levels T k m (claims_on nodes levels T k)) e ∙ ap (λ m. binary_checks nodes levels T k (claims_on nodes levels T k) (joined m (T.values k).0 (T.values k).1)) (sym e)
 
 -- with all levels drawn, the point kept for the first claim is the node's
-end_point : (c : OrderedCircuit) (answer : Bool) (draws : List ℕ) (replies : List Reply) (r : Reply) (k y : ℕ) (p : PointTable) (v : ℕ → ℕ → ℕ) → 0 < claims c.nodes k → y < length c.order → is_free c.nodes k y ≡ true
+end_point : (c : OrderedCircuit) (answer : Bool) (draws : List ℕ) (replies : List Reply) (r : Reply) (k y : ℕ) (p : PointTable) (v : ℕ → ℕ → ℕ)
+    → 0 < claims c.nodes k → y < length c.order → is_free c.nodes k y ≡ true
     → IsReady c.nodes (length c.order) answer draws replies k 0 (coordinate p) v
     → stored_point c p k 0 y ≡ node_point c.nodes (length c.order) (transcript c.nodes (length c.order) answer draws (replies ++ r ∷ [])) k y
 unfolding transcript node_point

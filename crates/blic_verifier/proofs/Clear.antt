@@ -1,26 +1,23 @@
 -- What the nodes taken after a reply show.
-use Rattle.std.proofs.Common.{arith, ℕ, zero, suc, ◌≡◌, ◌+◌, ◌-◌, ◌<◌, ◌≤◌, refl, sym, ◌∙◌, ap, subst, inl, inr, List, [], ◌∷◌, ◌++◌, length, get_or, drop, Bool, true, false, cond, ltb, eqb, append_assoc}
-use Rattle.std.proofs.lemmas.Bool.{cases_eq, cases_lt, lt-ltb, le-ltb}
-use Rattle.std.proofs.lemmas.List.{append-nil}
+use Rattle.std.proofs.Common.{arith, ℕ, zero, suc, ◌≡◌, ◌+◌, ◌<◌, ◌≤◌, sym, ◌∙◌, ap, inl, inr, List, [], ◌∷◌, ◌++◌, length, Bool, true, ltb, append_assoc}
+use Rattle.std.proofs.lemmas.Bool.{cases_eq, cases_lt, lt-ltb}
 use Rattle.std.proofs.lemmas.List.Elements.{filter-append}
-use Rattle.std.specs.Prelude.{map, flat_map, filter, find, reverse, Option, Some, None, not}
-use mathlib.Core.Path.{ap₂}
-use Rattle.blic_model.specs.Circuit.{node_at, below, free, root}
+use Rattle.std.specs.Prelude.{map, flat_map, filter, find, reverse, Some, None}
+use Rattle.blic_model.specs.Circuit.{node_at, below, free}
 use Rattle.blic_model.specs.Counts.{is_binary}
-use Rattle.blic_model.specs.Value.{bit}
 use Rattle.blic_model.specs.declared.node.Node.{Node}
-use Rattle.blic_model.specs.declared.node.Node.TheVariants.{Const, Var, Not, Fix, And, Or}
 use Rattle.blic_claims.proofs.Turns.{reverse_below, values_first}
-use Rattle.blic_claims.specs.Claims.{Transcript, Claim, claims_on, no_claim}
-use Rattle.blic_claims.specs.Turns.{sum_above, polys_number, values_number, replies_above}
-use Rattle.blic_verifier.proofs.Finding.{find_part, find_parts, none_part, none_left, find_skip, find_left, found, filter_all, filter_nothing, filter_parts_upto}
+use Rattle.blic_claims.specs.Claims.{Transcript, claims_on}
+use Rattle.blic_claims.specs.Turns.{polys_number, values_number, replies_above}
+use Rattle.blic_verifier.proofs.Finding.{find_parts, none_part, none_left, find_skip, found, filter_all, filter_parts_upto}
 use Rattle.blic_verifier.proofs.Shown.{replies_above_falls, polys_part, ends_part, shown_all, shown_nothing, shown_binary, shown_no_binary, binary_is}
 use Rattle.blic_verifier.proofs.ShownKept.{is_shown}
-use Rattle.blic_verifier.specs.Acceptance.{Check, poly_check, ends_check, leaf_check, combine_check, binary_checks, node_checks, checks, fails}
+use Rattle.blic_verifier.specs.Acceptance.{Check, poly_check, combine_check, binary_checks, node_checks, checks, fails}
 use Rattle.blic_verifier.specs.Verdict.{fault_upto}
 use Rattle.blic_verifier.specs.Walking.{conditions, IsClear}
 
-find_first : {X : Type 0} (f p : X → Bool) (g : ℕ → List X) (n k : ℕ) (c : X) → k < n → ((j : ℕ) → k < j → j < n → find f (filter p (g j)) ≡ None) → find f (filter p (g k)) ≡ Some c
+find_first : {X : Type 0} (f p : X → Bool) (g : ℕ → List X) (n k : ℕ) (c : X) → k < n → ((j : ℕ) → k < j → j < n → find f (filter p (g j)) ≡ None)
+    → find f (filter p (g k)) ≡ Some c
     → find f (filter p (flat_map g (reverse (below n)))) ≡ Some c
 find_first f p g zero k c l a e = absurd (omega arith)
 find_first f p g (suc n) k c l a e =
@@ -37,7 +34,8 @@ unfolding checks
 fault_here nodes levels T w k c l a e = find_first fails (is_shown w) (conditions nodes levels T) (length nodes) k c l (λ j h m. a j h m) e
 
 -- One clear node more.
-pub clear_more : (nodes : List Node) (levels : ℕ) (T : Transcript) (w k : ℕ) → IsClear nodes levels T w (suc k) → find fails (filter (is_shown w) (conditions nodes levels T k)) ≡ None → IsClear nodes levels T w k
+pub clear_more : (nodes : List Node) (levels : ℕ) (T : Transcript) (w k : ℕ) → IsClear nodes levels T w (suc k)
+    → find fails (filter (is_shown w) (conditions nodes levels T k)) ≡ None → IsClear nodes levels T w k
 clear_more nodes levels T w k a e j h l = elim (cases_eq k j) [
   | inl q ↦ ap (λ z. find fails (filter (is_shown w) (conditions nodes levels T z))) (sym q) ∙ e
   | inr q ↦ a j (omega arith) l
@@ -49,7 +47,8 @@ unfolding checks
 clear_all nodes levels T w a = find_parts fails (is_shown w) (conditions nodes levels T) (length nodes) (λ j l. a j (omega arith) l)
 
 -- At the next binary node the walk stops: nothing at it or below is shown.
-pub clear_stop : (nodes : List Node) (levels : ℕ) (T : Transcript) (w k : ℕ) → k < length nodes → is_binary (node_at nodes k) ≡ true → w ≤ replies_above nodes levels k + 1 → IsClear nodes levels T w (suc k)
+pub clear_stop : (nodes : List Node) (levels : ℕ) (T : Transcript) (w k : ℕ) → k < length nodes → is_binary (node_at nodes k) ≡ true
+    → w ≤ replies_above nodes levels k + 1 → IsClear nodes levels T w (suc k)
     → fault_upto nodes levels T w ≡ None
 clear_stop nodes levels T w k lk b s a =
     clear_all nodes levels T w (λ j h l. elim (cases_lt j k) [
@@ -57,11 +56,13 @@ clear_stop nodes levels T w k lk b s a =
       | inr q ↦ clear_more nodes levels T w k a (here (binary_is nodes levels T k (node_at nodes k) (claims_on nodes levels T k) b)) j q l
     ])
   where
-    here : (both : ℕ) × (node_checks nodes levels T k (node_at nodes k) (claims_on nodes levels T k) ≡ binary_checks nodes levels T k (claims_on nodes levels T k) both) → find fails (filter (is_shown w) (conditions nodes levels T k)) ≡ None
+    here : (both : ℕ) × (node_checks nodes levels T k (node_at nodes k) (claims_on nodes levels T k) ≡ binary_checks nodes levels T k (claims_on nodes levels T k) both)
+        → find fails (filter (is_shown w) (conditions nodes levels T k)) ≡ None
     here (both, e) = ap (λ z. find fails (filter (is_shown w) z)) e ∙ ap (find fails) (shown_no_binary nodes levels T k w (claims_on nodes levels T k) both s)
 
 -- A leaf's conditions are shown by the reply after which it is taken.
-pub leaf_shown : (nodes : List Node) (levels : ℕ) (k w : ℕ) (g : ℕ → Check) (n : ℕ) → ((c : ℕ) → (g c).reply ≡ replies_above nodes levels k) → replies_above nodes levels k < w → filter (is_shown w) (map g (below n)) ≡ map g (below n)
+pub leaf_shown : (nodes : List Node) (levels : ℕ) (k w : ℕ) (g : ℕ → Check) (n : ℕ) → ((c : ℕ) → (g c).reply ≡ replies_above nodes levels k)
+    → replies_above nodes levels k < w → filter (is_shown w) (map g (below n)) ≡ map g (below n)
 leaf_shown nodes levels k w g n e s = filter_all (is_shown w) g (below n) (λ c. ap (λ z. ltb z w) (e c) ∙ lt-ltb (replies_above nodes levels k) w s)
 
 -- The last reply of a binary node: its ends, then its combine; the nodes above are clear.

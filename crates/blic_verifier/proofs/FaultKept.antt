@@ -1,5 +1,5 @@
 -- What the replies so far show stays, whatever is drawn and said afterwards.
-use Rattle.std.proofs.Common.{arith, ℕ, zero, suc, ◌≡◌, ◌+◌, ◌-◌, ◌<◌, ◌≤◌, refl, sym, ◌∙◌, ap, subst, inl, inr, List, [], ◌∷◌, ◌++◌, length, get_or, take, Bool, true, false, cond}
+use Rattle.std.proofs.Common.{arith, ℕ, zero, suc, ◌≡◌, ◌+◌, ◌-◌, ◌<◌, ◌≤◌, refl, sym, ◌∙◌, ap, subst, inl, inr, List, [], ◌∷◌, ◌++◌, length, take, Bool, true, false, cond}
 use Rattle.std.specs.Prelude.{map, flat_map, filter, find, reverse}
 use mathlib.Core.Path.{ap₂, fun_ext}
 use Rattle.std.proofs.lemmas.Bool.{cases_eq, cond-true}
@@ -9,7 +9,7 @@ use Rattle.std.proofs.Math.Seq.{take-append-add}
 use Rattle.blic_model.specs.declared.node.Node.{Node}
 use Rattle.blic_model.specs.Circuit.{node_at, below, free}
 use Rattle.blic_model.specs.Counts.{is_binary}
-use Rattle.blic_claims.specs.Turns.{Turn, ForPolys, ForValues, Reply, node_turns, turns, transcript, draws_above, replies_above, draw_number, polys_number, values_number, no_reply, polys_of, values_of}
+use Rattle.blic_claims.specs.Turns.{ForPolys, ForValues, Reply, node_turns, turns, transcript, draws_above, replies_above, draw_number, polys_number, values_number, no_reply, polys_of, values_of}
 use Rattle.blic_claims.proofs.Lists.{length-below}
 use Rattle.blic_claims.proofs.Turns.{above, above-suc, above-own, reverse_below, length-node_turns, binary_turns, sum_above_is, binary_inside}
 use Rattle.blic_verifier.specs.Acceptance.{fails}
@@ -34,7 +34,8 @@ count_more t xs (suc m) zero l = absurd (omega arith)
 count_more t [] (suc m) (suc n) l = omega arith
 count_more t (x ∷ xs) (suc m) (suc n) l = go (t x) (count_more t xs m n (omega arith))
   where
-    go : (b : Bool) → length (filter t (take m xs)) ≤ length (filter t (take n xs)) → length (cond b (x ∷ filter t (take m xs)) (filter t (take m xs))) ≤ length (cond b (x ∷ filter t (take n xs)) (filter t (take n xs)))
+    go : (b : Bool) → length (filter t (take m xs)) ≤ length (filter t (take n xs))
+        → length (cond b (x ∷ filter t (take m xs)) (filter t (take m xs))) ≤ length (cond b (x ∷ filter t (take n xs)) (filter t (take n xs)))
     go true h = omega arith
     go false h = h
 
@@ -69,11 +70,13 @@ count_parts t f (suc n) k p l h =
     ]
 
 -- a node's turns for polynomials
-node_count : (nodes : List Node) (levels j : ℕ) → count is_polys (node_turns nodes levels j) ≡ cond (is_binary (node_at nodes j)) (length (free nodes levels j)) 0
+node_count : (nodes : List Node) (levels j : ℕ)
+    → count is_polys (node_turns nodes levels j) ≡ cond (is_binary (node_at nodes j)) (length (free nodes levels j)) 0
 unfolding count
 node_count nodes levels j = go (is_binary (node_at nodes j))
   where
-    go : (b : Bool) → length (filter is_polys (cond b (map (ForPolys j) (reverse (below (length (free nodes levels j)))) ++ ForValues j ∷ []) [])) ≡ cond b (length (free nodes levels j)) 0
+    go : (b : Bool)
+        → length (filter is_polys (cond b (map (ForPolys j) (reverse (below (length (free nodes levels j)))) ++ ForValues j ∷ []) [])) ≡ cond b (length (free nodes levels j)) 0
     go false = refl
     go true =
         ap length (filter-append is_polys (map (ForPolys j) (reverse (below (length (free nodes levels j))))) (ForValues j ∷ []) ∙ append-nil (filter is_polys (map (ForPolys j) (reverse (below (length (free nodes levels j)))))))
@@ -112,7 +115,8 @@ agree_more nodes levels answer draws others replies more h = record {
   draws = λ k i b li l. sym (get_or_append_left draws others 0 (draw_number nodes levels k i) (drawn k i b li l));
 }
   where
-    drawn : (k i : ℕ) → is_binary (node_at nodes k) ≡ true → i < length (free nodes levels k) → polys_number nodes levels k i + 2 < length replies + 1 → draw_number nodes levels k i < length draws
+    drawn : (k i : ℕ) → is_binary (node_at nodes k) ≡ true → i < length (free nodes levels k) → polys_number nodes levels k i + 2 < length replies + 1
+        → draw_number nodes levels k i < length draws
     drawn k i b li l =
         let p = length (free nodes levels k) - i in
         let upto = polys_before nodes levels k p (binary_inside nodes k b) b (omega arith) in

@@ -1,12 +1,11 @@
 -- The first of a filtered list, part by part.
-use Rattle.std.proofs.Common.{arith, ℕ, zero, suc, ◌≡◌, ◌+◌, ◌-◌, ◌<◌, ◌≤◌, refl, sym, ◌∙◌, ap, subst, inl, inr, List, [], ◌∷◌, ◌++◌, length, get_or, Bool, true, false, cond}
+use Rattle.std.proofs.Common.{arith, ℕ, zero, suc, ◌≡◌, ◌<◌, refl, sym, ◌∙◌, ap, inl, inr, List, [], ◌∷◌, ◌++◌, Bool, true, false, cond}
 use Rattle.std.proofs.lemmas.Bool.{cases_eq}
-use Rattle.std.proofs.lemmas.List.{append-nil, map-append}
-use Rattle.std.proofs.lemmas.List.Elements.{filter-append, Contains-append_right}
-use Rattle.std.specs.Prelude.{map, flat_map, filter, find, reverse, Option, Some, None, Contains, ◌⊎◌}
+use Rattle.std.proofs.lemmas.List.{map-append}
+use Rattle.std.proofs.lemmas.List.Elements.{filter-append}
+use Rattle.std.specs.Prelude.{map, flat_map, filter, find, reverse, Some, None}
 use mathlib.Core.Path.{ap₂}
 use Rattle.blic_model.specs.Circuit.{below}
-use Rattle.blic_claims.proofs.Lists.{Contains-cons_cases}
 use Rattle.blic_claims.proofs.Turns.{reverse_below}
 
 pub find_skip : {X : Type 0} (f : X → Bool) (xs ys : List X) → find f xs ≡ None → find f (xs ++ ys) ≡ find f ys
@@ -33,7 +32,8 @@ pub none_right : {X : Type 0} (f : X → Bool) (xs ys : List X) → find f (xs +
 none_right f xs ys e = sym (find_skip f xs ys (none_left f xs ys e)) ∙ e
 
 -- where no part has one
-pub find_parts : {X : Type 0} (f p : X → Bool) (g : ℕ → List X) (n : ℕ) → ((j : ℕ) → j < n → find f (filter p (g j)) ≡ None) → find f (filter p (flat_map g (reverse (below n)))) ≡ None
+pub find_parts : {X : Type 0} (f p : X → Bool) (g : ℕ → List X) (n : ℕ) → ((j : ℕ) → j < n → find f (filter p (g j)) ≡ None)
+    → find f (filter p (flat_map g (reverse (below n)))) ≡ None
 unfolding below
 find_parts f p g zero h = refl
 find_parts f p g (suc n) h =
@@ -41,7 +41,8 @@ find_parts f p g (suc n) h =
     ∙ (find_skip f (filter p (g n)) _ (h n (omega arith)) ∙ find_parts f p g n (λ j l. h j (omega arith))))
 
 -- part k of the parts with numbers below n, counted down, where the others have none
-pub find_part : {X : Type 0} (f p : X → Bool) (g : ℕ → List X) (n k : ℕ) → k < n → ((j : ℕ) → k < j → j < n → find f (filter p (g j)) ≡ None) → ((j : ℕ) → j < k → find f (filter p (g j)) ≡ None)
+pub find_part : {X : Type 0} (f p : X → Bool) (g : ℕ → List X) (n k : ℕ) → k < n → ((j : ℕ) → k < j → j < n → find f (filter p (g j)) ≡ None)
+    → ((j : ℕ) → j < k → find f (filter p (g j)) ≡ None)
     → find f (filter p (flat_map g (reverse (below n)))) ≡ find f (filter p (g k))
 find_part f p g zero k l a b = absurd (omega arith)
 find_part f p g (suc n) k l a b =
@@ -52,7 +53,8 @@ find_part f p g (suc n) k l a b =
     ])
 
 -- a whole without one has none in its parts
-pub none_part : {X : Type 0} (f p : X → Bool) (g : ℕ → List X) (n k : ℕ) → k < n → find f (filter p (flat_map g (reverse (below n)))) ≡ None → find f (filter p (g k)) ≡ None
+pub none_part : {X : Type 0} (f p : X → Bool) (g : ℕ → List X) (n k : ℕ) → k < n → find f (filter p (flat_map g (reverse (below n)))) ≡ None
+    → find f (filter p (g k)) ≡ None
 none_part f p g zero k l e = absurd (omega arith)
 none_part f p g (suc n) k l e =
     let w : find f (filter p (g n) ++ filter p (flat_map g (reverse (below n)))) ≡ None = ap (find f) (sym (filter-append p (g n) (flat_map g (reverse (below n))))) ∙ (ap (λ z. find f (filter p (flat_map g z))) (sym (reverse_below n)) ∙ e) in
@@ -86,7 +88,8 @@ found f (x ∷ xs) ys y e = go (f x) (found f xs ys y) e
     go true h e = e
     go false h e = h e
 
-pub find_mapped : {X : Type 0} (f : X → Bool) (g : ℕ → X) (n c : ℕ) → c < n → ((d : ℕ) → d < c → f (g d) ≡ false) → f (g c) ≡ true → find f (map g (below n)) ≡ Some (g c)
+pub find_mapped : {X : Type 0} (f : X → Bool) (g : ℕ → X) (n c : ℕ) → c < n → ((d : ℕ) → d < c → f (g d) ≡ false) → f (g c) ≡ true
+    → find f (map g (below n)) ≡ Some (g c)
 unfolding below
 find_mapped f g zero c l h t = absurd (omega arith)
 find_mapped f g (suc n) c l h t =
@@ -96,7 +99,8 @@ find_mapped f g (suc n) c l h t =
     ]
 
 -- parts that a filter keeps whole
-pub filter_parts_upto : {X : Type 0} (p : X → Bool) (g : ℕ → List X) (n : ℕ) → ((i : ℕ) → i < n → filter p (g i) ≡ g i) → filter p (flat_map g (reverse (below n))) ≡ flat_map g (reverse (below n))
+pub filter_parts_upto : {X : Type 0} (p : X → Bool) (g : ℕ → List X) (n : ℕ) → ((i : ℕ) → i < n → filter p (g i) ≡ g i)
+    → filter p (flat_map g (reverse (below n))) ≡ flat_map g (reverse (below n))
 unfolding below
 filter_parts_upto p g zero h = refl
 filter_parts_upto p g (suc n) h =

@@ -1,34 +1,30 @@
 -- Claims that a node hands down.
-use Rattle.std.proofs.Common.{arith, ℕ, zero, suc, ◌≡◌, ◌+◌, ◌-◌, ◌<◌, ◌≤◌, refl, sym, ◌∙◌, ap, subst, inl, inr, List, [], ◌∷◌, ◌++◌, length, get_or, Bool, true, false, cond, eqb, ltb}
-use Rattle.std.proofs.lemmas.Bool.{cases_eq, cases_lt, eq-eqb, ne_eqb, cond-true, cond-false, lt-ltb, eqb-true}
+use Rattle.std.proofs.Common.{arith, ℕ, zero, suc, ◌≡◌, ◌+◌, ◌-◌, ◌<◌, ◌≤◌, refl, sym, ◌∙◌, ap, subst, inl, inr, List, [], ◌∷◌, ◌++◌, length, get_or, Bool, true, false, cond, eqb}
+use Rattle.std.proofs.lemmas.Bool.{cases_eq, cases_lt, eq-eqb, ne_eqb, cond-true, cond-false, eqb-true}
 use Rattle.std.proofs.lemmas.List.{get_or-map, length-map}
-use Rattle.std.specs.Prelude.{map, filter, find, Some, None, not}
-use mathlib.Core.Path.{ap₂}
-use Rattle.blic_field.specs.Field.{sub}
+use Rattle.std.specs.Prelude.{map, filter, find, Some, not}
 use Rattle.blic_model.specs.Circuit.{node_at, below, free, root}
-use Rattle.blic_model.specs.Counts.{is_binary, handed_down, claims}
-use Rattle.blic_model.specs.Value.{put, bit, Point}
+use Rattle.blic_model.specs.Counts.{claims}
 use Rattle.blic_model.specs.declared.node.Node.{Node}
-use Rattle.blic_model.specs.declared.node.Node.TheVariants.{Const, Var, Not, Fix, And, Or}
 use Rattle.blic_claims.proofs.ClaimCounts.{length-claims_on, length-claims_from}
-use Rattle.blic_claims.proofs.HandedClaims.{place_law, given_more, given_all, few_given}
-use Rattle.blic_claims.specs.Claims.{Transcript, Claim, claims_from, claims_on, no_claim, node_point}
+use Rattle.blic_claims.proofs.HandedClaims.{place_law, given_more}
+use Rattle.blic_claims.specs.Claims.{Transcript, Claim, claims_from, claims_on, no_claim}
 use Rattle.blic_claims.specs.Places.{given}
-use Rattle.blic_claims.specs.Turns.{sum_above, replies_above}
+use Rattle.blic_claims.specs.Turns.{replies_above}
 use Rattle.blic_verifier.proofs.Finding.{find_mapped, find_mapped_none}
 use Rattle.blic_verifier.proofs.ShownKept.{is_shown}
-use Rattle.blic_verifier.proofs.Clear.{fault_here, clear_more, leaf_shown}
-use Rattle.blic_verifier.specs.Acceptance.{Check, leaf_check, node_checks, fails}
+use Rattle.blic_verifier.proofs.Clear.{clear_more, leaf_shown}
+use Rattle.blic_verifier.specs.Acceptance.{leaf_check, fails}
 use Rattle.blic_verifier.specs.Standing.{count_from, AreHeld}
 use Rattle.blic_verifier.specs.Walking.{conditions, IsClear}
-use Rattle.blic_verifier.specs.declared.place.Part.TheVariants.{Leaf}
 
 -- the claims that node k hands down to node a
 abbrev pub hands : List Node → ℕ → Transcript → ℕ → ℕ → List Claim
 hands nodes levels T k a = claims_from nodes levels T k (node_at nodes k) (claims_on nodes levels T k) a
 
 -- Node k is taken: what was stored stays, and what it hands down is stored behind.
-pub held_more : (nodes : List Node) (levels : ℕ) (T : Transcript) (k : ℕ) (x y : ℕ → ℕ → ℕ → ℕ) (v u : ℕ → ℕ → ℕ) → k ≤ root nodes → AreHeld nodes levels T (suc k) k x v
+pub held_more : (nodes : List Node) (levels : ℕ) (T : Transcript) (k : ℕ) (x y : ℕ → ℕ → ℕ → ℕ) (v u : ℕ → ℕ → ℕ) → k ≤ root nodes
+    → AreHeld nodes levels T (suc k) k x v
     → ((a c f : ℕ) → a < k → c < given nodes (suc k) a → f < length (free nodes levels a) → y a c f ≡ x a c f)
     → ((a c : ℕ) → a < k → c < given nodes (suc k) a → u a c ≡ v a c)
     → ((a c f : ℕ) → a < k → c < length (hands nodes levels T k a) → f < length (free nodes levels a) → y a (given nodes (suc k) a + c) f ≡ (get_or (hands nodes levels T k a) c no_claim).point (get_or (free nodes levels a) f 0))
@@ -52,7 +48,8 @@ held_more nodes levels T k x y v u lk F hx hv hy hu = record {
     given_count : (a c : ℕ) → a < k → c < given nodes (suc k) a → c < count_from nodes (suc k) a
     given_count a c la q = subst (λ b. c < cond b 1 (given nodes (suc k) a)) (sym (ne_eqb a (root nodes) (λ e. omega arith))) q
 
-    place : (a c : ℕ) → a < k → c < count_from nodes k a → given nodes (suc k) a ≤ c → (n : ℕ) × (c ≡ given nodes (suc k) a + n) × (n < length (hands nodes levels T k a))
+    place : (a c : ℕ) → a < k → c < count_from nodes k a → given nodes (suc k) a ≤ c
+        → (n : ℕ) × (c ≡ given nodes (suc k) a + n) × (n < length (hands nodes levels T k a))
     place a c la lc q =
         let l : c < given nodes k a = subst (λ b. c < cond b 1 (given nodes k a)) (ne_eqb a (root nodes) (λ e. omega arith)) lc in
         let m = given_more nodes k a lk in
@@ -60,7 +57,8 @@ held_more nodes levels T k x y v u lk F hx hv hy hu = record {
         (c - given nodes (suc k) a, omega arith, omega arith)
 
 -- A node that hands nothing down.
-pub held_leaf : (nodes : List Node) (levels : ℕ) (T : Transcript) (k : ℕ) (x : ℕ → ℕ → ℕ → ℕ) (v : ℕ → ℕ → ℕ) → k ≤ root nodes → ((a : ℕ) → hands nodes levels T k a ≡ []) → AreHeld nodes levels T (suc k) k x v → AreHeld nodes levels T k k x v
+pub held_leaf : (nodes : List Node) (levels : ℕ) (T : Transcript) (k : ℕ) (x : ℕ → ℕ → ℕ → ℕ) (v : ℕ → ℕ → ℕ) → k ≤ root nodes
+    → ((a : ℕ) → hands nodes levels T k a ≡ []) → AreHeld nodes levels T (suc k) k x v → AreHeld nodes levels T k k x v
 held_leaf nodes levels T k x v lk e F =
     held_more nodes levels T k x x v v lk F (λ a c f la lc lf. refl) (λ a c la lc. refl)
     (λ a c f la lc lf. absurd (none a c lc)) (λ a c la lc. absurd (none a c lc))
@@ -108,7 +106,8 @@ abbrev pub two : Claim → Claim → Bool → Bool → List Claim
 two cp cq s t = cond s (cp ∷ []) [] ++ cond t (cq ∷ []) []
 
 -- entry c of them, by a property of places
-two_place : (cp cq : Claim) (s t : Bool) (c : ℕ) (P : ℕ → Claim → Type 0) → c < length (two cp cq s t) → (s ≡ true → P 0 cp) → (t ≡ true → P (cond s 1 0) cq) → P c (get_or (two cp cq s t) c no_claim)
+two_place : (cp cq : Claim) (s t : Bool) (c : ℕ) (P : ℕ → Claim → Type 0) → c < length (two cp cq s t) → (s ≡ true → P 0 cp)
+    → (t ≡ true → P (cond s 1 0) cq) → P c (get_or (two cp cq s t) c no_claim)
 two_place cp cq false false c P l hp hq = absurd (omega arith)
 two_place cp cq true false zero P l hp hq = hp refl
 two_place cp cq true false (suc c) P l hp hq = absurd (omega arith)
@@ -140,7 +139,9 @@ held_pair nodes levels T k b d cp cq x y v u lk e F hx hv yb yd ub ud =
     (λ t. let q = eqb-true d a t in subst (λ z. u z (given nodes (suc k) z + cond (eqb b z) 1 0) ≡ cq.value) q ud)))
 
 -- A leaf: the first claim whose value is not the wanted one is the fault, and a leaf without one is clear.
-pub leaf_fault : (nodes : List Node) (levels : ℕ) (T : Transcript) (w k c n : ℕ) (left right : ℕ → ℕ) → k < length nodes → w ≡ suc (replies_above nodes levels k) → conditions nodes levels T k ≡ map (λ j. leaf_check nodes levels k j (left j) (right j)) (below n) → IsClear nodes levels T w (suc k)
+pub leaf_fault : (nodes : List Node) (levels : ℕ) (T : Transcript) (w k c n : ℕ) (left right : ℕ → ℕ) → k < length nodes
+    → w ≡ suc (replies_above nodes levels k) → conditions nodes levels T k ≡ map (λ j. leaf_check nodes levels k j (left j) (right j)) (below n)
+    → IsClear nodes levels T w (suc k)
     → c < n → ((d : ℕ) → d < c → left d ≡ right d) → (left c ≡ right c → ⊥)
     → find fails (filter (is_shown w) (conditions nodes levels T k)) ≡ Some (leaf_check nodes levels k c (left c) (right c))
 leaf_fault nodes levels T w k c n left right lk ew e clear lc h bad =
@@ -148,7 +149,8 @@ leaf_fault nodes levels T w k c n left right lk ew e clear lc h bad =
     ∙ (ap (find fails) (leaf_shown nodes levels k w (λ j. leaf_check nodes levels k j (left j) (right j)) n (λ j. refl) (omega arith))
     ∙ find_mapped fails (λ j. leaf_check nodes levels k j (left j) (right j)) n c lc (λ d l. ap not (eq-eqb _ _ (h d l))) (ap not (ne_eqb _ _ bad)))
 
-pub leaf_fine : (nodes : List Node) (levels : ℕ) (T : Transcript) (w k n : ℕ) (left right : ℕ → ℕ) → w ≡ suc (replies_above nodes levels k) → conditions nodes levels T k ≡ map (λ j. leaf_check nodes levels k j (left j) (right j)) (below n) → IsClear nodes levels T w (suc k)
+pub leaf_fine : (nodes : List Node) (levels : ℕ) (T : Transcript) (w k n : ℕ) (left right : ℕ → ℕ) → w ≡ suc (replies_above nodes levels k)
+    → conditions nodes levels T k ≡ map (λ j. leaf_check nodes levels k j (left j) (right j)) (below n) → IsClear nodes levels T w (suc k)
     → ((d : ℕ) → d < n → left d ≡ right d) → IsClear nodes levels T w k
 leaf_fine nodes levels T w k n left right ew e clear h =
     clear_more nodes levels T w k clear

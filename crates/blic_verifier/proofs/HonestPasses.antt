@@ -1,11 +1,10 @@
 -- The honest replies under any draws pass.
-use Rattle.std.proofs.Common.{arith, ℕ, suc, ◌≡◌, ◌+◌, ◌<◌, ◌≤◌, sym, ◌∙◌, ap, subst, List, [], ◌∷◌, length, get_or, true}
+use Rattle.std.proofs.Common.{arith, ℕ, suc, ◌≡◌, ◌+◌, ◌<◌, sym, ◌∙◌, ap, subst, List, [], ◌∷◌, length, get_or, true}
 use Rattle.std.specs.List.{AllZip}
 use Rattle.std.proofs.lemmas.List.{length-map, get_or-map}
 use Rattle.blic_field.specs.Field.{modulus}
 use Rattle.blic_model.specs.declared.node.Node.{Node}
 use Rattle.blic_model.specs.Circuit.{node_at, table, free}
-use Rattle.blic_model.specs.Value.{value}
 use Rattle.blic_model.specs.Counts.{is_binary, claims}
 use Rattle.blic_model.specs.Reduction.{poly}
 use Rattle.blic_model.proofs.Ordered.{AllOrdered}

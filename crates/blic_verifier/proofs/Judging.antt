@@ -1,6 +1,6 @@
 -- What is told of the replies so far.
 use Rattle.std.proofs.Common.{ℕ, suc, ◌≡◌, ap, List, length, Bool, cond, eqb}
-use Rattle.std.specs.Prelude.{Option, Some, None}
+use Rattle.std.specs.Prelude.{Some, None}
 use Rattle.blic_model.specs.declared.node.Node.{Node}
 use Rattle.blic_claims.specs.Turns.{Reply, turns, transcript}
 use Rattle.blic_verifier.specs.Acceptance.{Check}
@@ -8,12 +8,15 @@ use Rattle.blic_verifier.specs.Verdict.{fault_upto, judged, wants_draw_after, pl
 use Rattle.blic_verifier.specs.declared.next.Next.TheVariants.{Draw, Go, Done, Rejected}
 
 -- a fault that is shown is told
-pub judged_fault : (nodes : List Node) (levels : ℕ) (answer : Bool) (draws : List ℕ) (replies : List Reply) (c : Check) → fault_upto nodes levels (transcript nodes levels answer draws replies) (suc (length replies)) ≡ Some c → judged nodes levels answer draws replies ≡ Rejected (place_of c)
+pub judged_fault : (nodes : List Node) (levels : ℕ) (answer : Bool) (draws : List ℕ) (replies : List Reply) (c : Check)
+    → fault_upto nodes levels (transcript nodes levels answer draws replies) (suc (length replies)) ≡ Some c
+    → judged nodes levels answer draws replies ≡ Rejected (place_of c)
 judged_fault nodes levels answer draws replies c e =
     ap (λ o. elim o [ Some d ↦ Rejected (place_of d) | None ↦ cond (eqb (length replies) (length (turns nodes levels))) (Done answer) (cond (wants_draw_after (turns nodes levels) (length replies)) Draw Go) ]) e
 
 -- without one it is told what stands next
-pub judged_fine : (nodes : List Node) (levels : ℕ) (answer : Bool) (draws : List ℕ) (replies : List Reply) → fault_upto nodes levels (transcript nodes levels answer draws replies) (suc (length replies)) ≡ None
+pub judged_fine : (nodes : List Node) (levels : ℕ) (answer : Bool) (draws : List ℕ) (replies : List Reply)
+    → fault_upto nodes levels (transcript nodes levels answer draws replies) (suc (length replies)) ≡ None
     → judged nodes levels answer draws replies ≡ cond (eqb (length replies) (length (turns nodes levels))) (Done answer) (cond (wants_draw_after (turns nodes levels) (length replies)) Draw Go)
 judged_fine nodes levels answer draws replies e =
     ap (λ o. elim o [ Some d ↦ Rejected (place_of d) | None ↦ cond (eqb (length replies) (length (turns nodes levels))) (Done answer) (cond (wants_draw_after (turns nodes levels) (length replies)) Draw Go) ]) e

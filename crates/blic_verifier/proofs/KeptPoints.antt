@@ -1,14 +1,14 @@
 -- Points as they are kept, at the free levels of children.
-use Rattle.std.proofs.Common.{arith, ℕ, zero, suc, ◌≡◌, ◌+◌, ◌-◌, ◌<◌, ◌≤◌, refl, sym, ◌∙◌, ap, subst, ◌⊎◌, inl, inr, List, [], ◌∷◌, ◌++◌, length, get_or, Bool, true, false, cond, eqb, ltb, ◌&&◌, ◌||◌}
+use Rattle.std.proofs.Common.{arith, ℕ, zero, suc, ◌≡◌, ◌<◌, ◌≤◌, refl, sym, ◌∙◌, ap, subst, ◌⊎◌, inl, inr, List, [], ◌∷◌, ◌++◌, length, get_or, Bool, true, false, cond, eqb, ltb, ◌&&◌, ◌||◌}
 use Rattle.std.specs.Prelude.{map, filter, Contains, All, not}
 use mathlib.Core.Path.{ap₂}
-use Rattle.std.proofs.lemmas.Bool.{cases_eq, cases_lt, lt-ltb, le-ltb, eq-eqb, ne_eqb, cond-true, cond-false, eqb-true}
+use Rattle.std.proofs.lemmas.Bool.{cases_eq, cases_lt, lt-ltb, le-ltb, eq-eqb, ne_eqb, cond-true, cond-false}
 use Rattle.std.proofs.lemmas.List.{get_or-map, length-map, append-nil}
 use Rattle.std.proofs.lemmas.List.Elements.{All-nil, All-append, All-get_or, filter-append}
 use Rattle.blic_model.specs.declared.node.Node.{Node}
-use Rattle.blic_model.specs.declared.node.Node.TheVariants.{Const, Var, Not, Fix, And, Or}
+use Rattle.blic_model.specs.declared.node.Node.TheVariants.{Var, Not, Fix, And, Or}
 use Rattle.blic_model.specs.Circuit.{OrderedCircuit, node_at, below, free_step, is_free, free}
-use Rattle.blic_model.specs.Value.{Point, put}
+use Rattle.blic_model.specs.Value.{Point}
 use Rattle.blic_model.proofs.Ordered.{ChildrenBelow}
 use Rattle.blic_model.proofs.Entries.{is_free-step}
 use Rattle.blic_model.proofs.Reduced.{All-below}
@@ -16,7 +16,8 @@ use Rattle.blic_claims.specs.Points.{PointTable, coordinate, point_of, stored_po
 use Rattle.blic_claims.proofs.Lists.{Contains-cons_cases, Contains-filter, Contains-below, length-below, get_or-below}
 
 -- a list of levels with the elements of a point there is that point at these levels
-point_of_is : (xs es : List ℕ) (s : Point) (y : ℕ) → length es ≡ length xs → ((f : ℕ) → f < length xs → get_or es f 0 ≡ s (get_or xs f 0)) → Contains xs y → point_of xs es y ≡ s y
+point_of_is : (xs es : List ℕ) (s : Point) (y : ℕ) → length es ≡ length xs → ((f : ℕ) → f < length xs → get_or es f 0 ≡ s (get_or xs f 0))
+    → Contains xs y → point_of xs es y ≡ s y
 point_of_is [] es s y n h (j, l, e) = absurd (omega arith)
 point_of_is (x ∷ xs) [] s y n h c = absurd (omega arith)
 point_of_is (x ∷ xs) (e ∷ es) s y n h c = elim (cases_eq y x) [
@@ -51,7 +52,8 @@ All-kept test (x ∷ xs) = go (test x) refl (All-kept test xs)
     go false e h = h
 
 -- a free level of a node is below the number of levels, and free
-pub free_is : (nodes : List Node) (levels a f : ℕ) → f < length (free nodes levels a) → (get_or (free nodes levels a) f 0 < levels) × (is_free nodes a (get_or (free nodes levels a) f 0) ≡ true)
+pub free_is : (nodes : List Node) (levels a f : ℕ) → f < length (free nodes levels a)
+    → (get_or (free nodes levels a) f 0 < levels) × (is_free nodes a (get_or (free nodes levels a) f 0) ≡ true)
 unfolding free
 free_is nodes levels a f l = (
   All-get_or (λ x. x < levels) (filter (is_free nodes a) (below levels)) f 0 l (All-below (is_free nodes a) levels),
@@ -66,7 +68,8 @@ free_contains nodes levels k y l e = Contains-filter (is_free nodes k) (below le
 pub not_free : (nodes : List Node) (k b y : ℕ) → ChildrenBelow k (node_at nodes k) → node_at nodes k ≡ Not b → is_free nodes k y ≡ is_free nodes b y
 not_free nodes k b y o e = is_free-step nodes k o y ∙ ap (λ n. free_step k n (is_free nodes) y) e
 
-pub fix_free : (nodes : List Node) (k x : ℕ) (v : Bool) (b y : ℕ) → ChildrenBelow k (node_at nodes k) → node_at nodes k ≡ Fix x v b → (y ≡ x → ⊥) → is_free nodes b y ≡ true → is_free nodes k y ≡ true
+pub fix_free : (nodes : List Node) (k x : ℕ) (v : Bool) (b y : ℕ) → ChildrenBelow k (node_at nodes k) → node_at nodes k ≡ Fix x v b → (y ≡ x → ⊥)
+    → is_free nodes b y ≡ true → is_free nodes k y ≡ true
 fix_free nodes k x v b y o e ne h =
     is_free-step nodes k o y ∙ (ap (λ n. free_step k n (is_free nodes) y) e ∙ both (is_free nodes b y) (eqb y x) h (ne_eqb y x ne))
   where
@@ -77,10 +80,12 @@ either_true : (c d : Bool) → (c ≡ true) ⊎ (d ≡ true) → (c || d) ≡ tr
 either_true c d (inl e) = grind arith
 either_true c d (inr e) = grind arith
 
-pub and_free : (nodes : List Node) (k a b y : ℕ) → ChildrenBelow k (node_at nodes k) → node_at nodes k ≡ And a b → (is_free nodes a y ≡ true) ⊎ (is_free nodes b y ≡ true) → is_free nodes k y ≡ true
+pub and_free : (nodes : List Node) (k a b y : ℕ) → ChildrenBelow k (node_at nodes k) → node_at nodes k ≡ And a b
+    → (is_free nodes a y ≡ true) ⊎ (is_free nodes b y ≡ true) → is_free nodes k y ≡ true
 and_free nodes k a b y o e h = is_free-step nodes k o y ∙ (ap (λ n. free_step k n (is_free nodes) y) e ∙ either_true (is_free nodes a y) (is_free nodes b y) h)
 
-pub or_free : (nodes : List Node) (k a b y : ℕ) → ChildrenBelow k (node_at nodes k) → node_at nodes k ≡ Or a b → (is_free nodes a y ≡ true) ⊎ (is_free nodes b y ≡ true) → is_free nodes k y ≡ true
+pub or_free : (nodes : List Node) (k a b y : ℕ) → ChildrenBelow k (node_at nodes k) → node_at nodes k ≡ Or a b
+    → (is_free nodes a y ≡ true) ⊎ (is_free nodes b y ≡ true) → is_free nodes k y ≡ true
 or_free nodes k a b y o e h = is_free-step nodes k o y ∙ (ap (λ n. free_step k n (is_free nodes) y) e ∙ either_true (is_free nodes a y) (is_free nodes b y) h)
 
 -- the one free level of a variable

@@ -1,20 +1,19 @@
 -- A walk past a leaf, or a fault there.
-use Rattle.std.proofs.Common.{arith, ℕ, zero, suc, ◌≡◌, ◌+◌, ◌-◌, ◌<◌, ◌≤◌, refl, sym, ◌∙◌, ap, subst, List, [], ◌∷◌, length, get_or, Bool, true, false, cond}
+use Rattle.std.proofs.Common.{arith, ℕ, suc, ◌≡◌, ◌+◌, ◌<◌, refl, sym, ◌∙◌, ap, subst, List, [], ◌∷◌, length, get_or, Bool, false}
 use Rattle.std.specs.Prelude.{map, Some, None, Option, sum_by}
-use mathlib.Core.Path.{ap₂}
 use Rattle.std.proofs.lemmas.Bool.{ltb-true}
 use Rattle.blic_model.specs.declared.node.Node.{Node}
-use Rattle.blic_model.specs.declared.node.Node.TheVariants.{Const, Var, Not, Fix, And, Or}
-use Rattle.blic_model.specs.Circuit.{OrderedCircuit, node_at, root, below, free}
+use Rattle.blic_model.specs.declared.node.Node.TheVariants.{Const, Var}
+use Rattle.blic_model.specs.Circuit.{OrderedCircuit, node_at, below, free}
 use Rattle.blic_model.specs.Counts.{is_binary, claims}
 use Rattle.blic_model.specs.Value.{bit}
 use Rattle.blic_model.specs.Shape.{IsShaped, levels_below}
 use Rattle.blic_model.proofs.Ordered.{ordered_all}
 use Rattle.blic_model.proofs.Shaped.{ordered_of, in_range_of}
-use Rattle.blic_claims.specs.Claims.{Transcript, claims_from, claims_on, claim_at}
-use Rattle.blic_claims.specs.Places.{layout_of, row_at}
+use Rattle.blic_claims.specs.Claims.{claims_from, claims_on, claim_at}
+use Rattle.blic_claims.specs.Places.{layout_of}
 use Rattle.blic_claims.specs.Points.{PointTable, coordinate}
-use Rattle.blic_claims.specs.Turns.{Reply, transcript, replies_above}
+use Rattle.blic_claims.specs.Turns.{Reply, transcript}
 use Rattle.blic_claims.proofs.ClaimCounts.{length-claims_on}
 use Rattle.blic_verifier.specs.Acceptance.{leaf_check, node_checks}
 use Rattle.blic_verifier.specs.Standing.{AreHeld}

@@ -1,45 +1,47 @@
 -- A walk past each kind of node that is not binary.
-use Rattle.std.proofs.Common.{arith, ℕ, zero, suc, ◌≡◌, ◌+◌, ◌-◌, ◌<◌, ◌≤◌, refl, sym, ◌∙◌, ap, subst, ◌⊎◌, inl, inr, List, [], ◌∷◌, ◌++◌, length, get_or, Bool, true, false, cond, eqb, ◌&&◌}
-use Rattle.std.specs.Prelude.{map, filter, find, Some, None, Option, sum_by}
+use Rattle.std.proofs.Common.{arith, ℕ, suc, ◌≡◌, ◌+◌, ◌-◌, ◌<◌, ◌≤◌, refl, sym, ◌∙◌, ap, subst, ◌⊎◌, inl, inr, List, length, get_or, Bool, true, cond, eqb, ◌&&◌}
+use Rattle.std.specs.Prelude.{sum_by}
 use mathlib.Core.Path.{ap₂}
 use Rattle.std.proofs.lemmas.Bool.{cases_eq}
 use Rattle.blic_field.specs.Field.{sub}
 use Rattle.blic_model.specs.declared.node.Node.{Node}
-use Rattle.blic_model.specs.declared.node.Node.TheVariants.{Const, Var, Not, Fix, And, Or}
-use Rattle.blic_model.specs.Circuit.{OrderedCircuit, node_at, root, below, is_free, free}
+use Rattle.blic_model.specs.declared.node.Node.TheVariants.{Not, Fix}
+use Rattle.blic_model.specs.Circuit.{OrderedCircuit, node_at, below, is_free, free}
 use Rattle.blic_model.specs.Counts.{is_binary, handed_down, claims}
 use Rattle.blic_model.specs.Value.{Point, put, bit}
-use Rattle.blic_model.specs.Shape.{IsShaped, levels_below}
+use Rattle.blic_model.specs.Shape.{IsShaped}
 use Rattle.blic_model.proofs.Ordered.{ChildrenBelow, ordered_all}
-use Rattle.blic_model.proofs.Shaped.{ordered_of, in_range_of}
+use Rattle.blic_model.proofs.Shaped.{ordered_of}
 use Rattle.blic_model.proofs.Put.{put_here, put_other}
-use Rattle.blic_claims.specs.Claims.{Transcript, Claim, claims_from, claims_on, no_claim, claim_at}
+use Rattle.blic_claims.specs.Claims.{claims_from, claims_on, claim_at}
 use Rattle.blic_claims.specs.Places.{given, places_of, layout_of, row_at, first_place}
-use Rattle.blic_claims.specs.Points.{PointTable, coordinate, IsPlace, stored_point, is_among, handed_point, HandsDown}
+use Rattle.blic_claims.specs.Points.{PointTable, coordinate, stored_point, is_among, handed_point, HandsDown}
 use Rattle.blic_claims.specs.Turns.{Reply, transcript}
 use Rattle.blic_verifier.specs.Acceptance.{node_checks}
-use Rattle.blic_verifier.specs.Walking.{conditions}
-use Rattle.blic_verifier.specs.Holding.{value_in, WalksTo}
+use Rattle.blic_verifier.specs.Holding.{WalksTo}
 use Rattle.blic_verifier.proofs.Stopping.{count_own}
-use Rattle.blic_verifier.proofs.Handing.{hands}
-use Rattle.blic_verifier.proofs.Rows.{IsRow, is_row, first_is, handed_all}
+use Rattle.blic_verifier.proofs.Rows.{is_row, first_is, handed_all}
 use Rattle.blic_verifier.proofs.KeptPoints.{stored_is, free_is, free_contains, not_free, fix_free}
 use Rattle.blic_verifier.proofs.Passing.{mapped_walk}
 
 -- the child of a `Not` or `Fix` node is smaller, and there is room for its claims
-pub not_child : (nodes : List Node) (levels k b : ℕ) → IsShaped nodes levels → k < length nodes → node_at nodes k ≡ Not b → (b < k) × (given nodes (suc k) b + claims nodes k ≤ claims nodes b)
+pub not_child : (nodes : List Node) (levels k b : ℕ) → IsShaped nodes levels → k < length nodes → node_at nodes k ≡ Not b
+    → (b < k) × (given nodes (suc k) b + claims nodes k ≤ claims nodes b)
 not_child nodes levels k b s lk e =
     let lb : b < k = subst (λ m. ChildrenBelow k m) e (ordered_all nodes (ordered_of nodes levels s) k) in
     (lb, handed_all nodes k b (claims nodes k) lb (omega arith) (ap (λ m. handed_down m (claims nodes k) b) e))
 
-pub fix_child : (nodes : List Node) (levels k x : ℕ) (v : Bool) (b : ℕ) → IsShaped nodes levels → k < length nodes → node_at nodes k ≡ Fix x v b → (b < k) × (given nodes (suc k) b + claims nodes k ≤ claims nodes b)
+pub fix_child : (nodes : List Node) (levels k x : ℕ) (v : Bool) (b : ℕ) → IsShaped nodes levels → k < length nodes → node_at nodes k ≡ Fix x v b
+    → (b < k) × (given nodes (suc k) b + claims nodes k ≤ claims nodes b)
 fix_child nodes levels k x v b s lk e =
     let lb : b < k = subst (λ m. ChildrenBelow k m) e (ordered_all nodes (ordered_of nodes levels s) k) in
     (lb, handed_all nodes k b (claims nodes k) lb (omega arith) (ap (λ m. handed_down m (claims nodes k) b) e))
 
 -- the point that is kept for a claim is the claim's, at each level that is free in the node
-kept_point : (c : OrderedCircuit) (answer : Bool) (draws : List ℕ) (replies : List Reply) (k d y : ℕ) (p : PointTable) (vs : List ℕ) → k < length c.nodes → d < claims c.nodes k → y < length c.order → is_free c.nodes k y ≡ true
-    → WalksTo c answer draws replies (suc k) p vs → stored_point c p k d y ≡ (claim_at c.nodes (length c.order) (transcript c.nodes (length c.order) answer draws replies) k d).point y
+kept_point : (c : OrderedCircuit) (answer : Bool) (draws : List ℕ) (replies : List Reply) (k d y : ℕ) (p : PointTable) (vs : List ℕ)
+    → k < length c.nodes → d < claims c.nodes k → y < length c.order → is_free c.nodes k y ≡ true
+    → WalksTo c answer draws replies (suc k) p vs
+    → stored_point c p k d y ≡ (claim_at c.nodes (length c.order) (transcript c.nodes (length c.order) answer draws replies) k d).point y
 kept_point c answer draws replies k d y p vs lk ld ly fy w =
     stored_is c p k d (claim_at c.nodes (length c.order) (transcript c.nodes (length c.order) answer draws replies) k d).point y
     (λ f lf. w.below.point k d f (omega arith) (count_own c.nodes k d lk ld) lf) (free_contains c.nodes (length c.order) k y ly fy)

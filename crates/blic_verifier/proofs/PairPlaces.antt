@@ -1,5 +1,5 @@
 -- The places of the two claims that a binary node hands down, as a layout shows them.
-use Rattle.std.proofs.Common.{arith, ℕ, suc, ◌≡◌, ◌+◌, ◌<◌, ◌∙◌, ap, refl, length, cond, eqb}
+use Rattle.std.proofs.Common.{arith, ℕ, suc, ◌≡◌, ◌+◌, ◌<◌, ◌∙◌, refl, length, cond, eqb}
 use Rattle.std.specs.Prelude.{sum_by}
 use mathlib.Core.Path.{ap₂}
 use Rattle.blic_model.specs.Circuit.{OrderedCircuit, node_at, below}
@@ -11,7 +11,8 @@ use Rattle.blic_verifier.proofs.Rows.{sum_apart}
 use Rattle.blic_verifier.proofs.Places.{row_of_layout, first_of_layout, second_of_layout}
 use Rattle.blic_verifier.proofs.BinaryWalk.{IsPair, pair_ap, pair_below, pair_room}
 
-pub left_place : (c : OrderedCircuit) (l : Places) (k a b n : ℕ) (r : Row) → l ≡ layout_of c → IsShaped c.nodes (length c.order) → k < length c.nodes → IsPair (node_at c.nodes k) a b → n ≡ first_place l k → r ≡ row_at l.rows a
+pub left_place : (c : OrderedCircuit) (l : Places) (k a b n : ℕ) (r : Row) → l ≡ layout_of c → IsShaped c.nodes (length c.order) → k < length c.nodes
+    → IsPair (node_at c.nodes k) a b → n ≡ first_place l k → r ≡ row_at l.rows a
     → (r.first + n ≡ sum_by (claims c.nodes) (below a) + given c.nodes (suc k) a) × (r.first + n < sum_by (claims c.nodes) (below (length c.nodes)))
 left_place c l k a b n r e shaped lk h en er =
     let lower = pair_below c.nodes (length c.order) k a b shaped h in
@@ -22,7 +23,8 @@ left_place c l k a b n r e shaped lk h en er =
     let room = pair_room c.nodes k a b h la lower.1 (omega arith) in
     (same, omega (arith, same, room.0, sum_apart (claims c.nodes) a (length c.nodes) (omega arith)))
 
-pub right_place : (c : OrderedCircuit) (l : Places) (k a b n : ℕ) (r : Row) → l ≡ layout_of c → IsShaped c.nodes (length c.order) → k < length c.nodes → IsPair (node_at c.nodes k) a b → n ≡ second_place l k → r ≡ row_at l.rows b
+pub right_place : (c : OrderedCircuit) (l : Places) (k a b n : ℕ) (r : Row) → l ≡ layout_of c → IsShaped c.nodes (length c.order) → k < length c.nodes
+    → IsPair (node_at c.nodes k) a b → n ≡ second_place l k → r ≡ row_at l.rows b
     → (r.first + n ≡ sum_by (claims c.nodes) (below b) + (given c.nodes (suc k) b + cond (eqb a b) 1 0)) × (r.first + n < sum_by (claims c.nodes) (below (length c.nodes)))
 right_place c l k a b n r e shaped lk h en er =
     let lower = pair_below c.nodes (length c.order) k a b shaped h in

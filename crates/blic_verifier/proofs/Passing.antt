@@ -1,20 +1,14 @@
 -- A walk past a node that is not binary.
-use Rattle.std.proofs.Common.{arith, ℕ, zero, suc, ◌≡◌, ◌+◌, ◌-◌, ◌<◌, ◌≤◌, refl, sym, ◌∙◌, ap, subst, ◌⊎◌, inl, inr, List, [], ◌∷◌, ◌++◌, length, get_or, Bool, true, false, cond, eqb, ltb, ◌&&◌}
-use Rattle.std.specs.Prelude.{map, filter, find, None, Contains, sum_by}
+use Rattle.std.proofs.Common.{arith, ℕ, suc, ◌≡◌, ◌+◌, ◌-◌, ◌<◌, ◌≤◌, refl, sym, ◌∙◌, ap, subst, ◌⊎◌, inl, inr, List, [], length, get_or, Bool, true, false, cond, eqb, ltb, ◌&&◌}
+use Rattle.std.specs.Prelude.{map, filter, find, sum_by}
 use Rattle.std.proofs.lemmas.Bool.{cases_eq, cases_lt, eq-eqb, ne_eqb, cond-true, cond-false, lt-ltb, le-ltb, and_from}
-use Rattle.blic_field.specs.Field.{sub}
 use Rattle.blic_model.specs.declared.node.Node.{Node}
-use Rattle.blic_model.specs.declared.node.Node.TheVariants.{Const, Var, Not, Fix, And, Or}
-use Rattle.blic_model.specs.Circuit.{OrderedCircuit, node_at, root, below, is_free, free}
-use Rattle.blic_model.specs.Counts.{is_binary, handed_down, claims}
-use Rattle.blic_model.specs.Value.{Point, put, bit}
-use Rattle.blic_model.specs.Shape.{IsShaped}
-use Rattle.blic_model.proofs.Ordered.{ChildrenBelow, ordered_all}
-use Rattle.blic_model.proofs.Shaped.{ordered_of}
-use Rattle.blic_model.proofs.Put.{put_here, put_other}
-use Rattle.blic_claims.specs.Claims.{Transcript, Claim, claims_on, no_claim, claim_at}
-use Rattle.blic_claims.specs.Places.{given, places_of, layout_of, row_at, first_place}
-use Rattle.blic_claims.specs.Points.{PointTable, coordinate, IsPlace, stored_point, is_among, handed_point, HandsDown}
+use Rattle.blic_model.specs.Circuit.{OrderedCircuit, node_at, root, below, free}
+use Rattle.blic_model.specs.Counts.{is_binary, claims}
+use Rattle.blic_model.specs.Value.{Point}
+use Rattle.blic_claims.specs.Claims.{Claim, claims_on, claim_at}
+use Rattle.blic_claims.specs.Places.{given, layout_of, row_at}
+use Rattle.blic_claims.specs.Points.{PointTable, coordinate, IsPlace, is_among}
 use Rattle.blic_claims.specs.Turns.{Reply, transcript, draws_above, replies_above}
 use Rattle.blic_verifier.specs.Acceptance.{fails}
 use Rattle.blic_verifier.specs.Standing.{AreHeld}
@@ -24,11 +18,11 @@ use Rattle.blic_verifier.proofs.ShownKept.{is_shown}
 use Rattle.blic_verifier.proofs.Clear.{clear_more}
 use Rattle.blic_verifier.proofs.Stopping.{start_same, count_own}
 use Rattle.blic_verifier.proofs.Handing.{hands, held_mapped}
-use Rattle.blic_verifier.proofs.Rows.{IsRow, is_row, length-rows, first_is, sum_apart, handed_within, handed_all}
-use Rattle.blic_verifier.proofs.KeptPoints.{stored_is, free_is, free_contains, not_free, fix_free}
+use Rattle.blic_verifier.proofs.Rows.{is_row, length-rows, sum_apart, handed_within}
 use Rattle.blic_verifier.proofs.Totals.{all_replies, all_draws}
 
-pub walk_more : (nodes : List Node) (levels : ℕ) (answer : Bool) (draws : List ℕ) (replies : List Reply) (k : ℕ) (x y : ℕ → ℕ → ℕ → ℕ) (v u : ℕ → ℕ → ℕ) → k < length nodes → is_binary (node_at nodes k) ≡ false
+pub walk_more : (nodes : List Node) (levels : ℕ) (answer : Bool) (draws : List ℕ) (replies : List Reply) (k : ℕ) (x y : ℕ → ℕ → ℕ → ℕ) (v u : ℕ → ℕ → ℕ)
+    → k < length nodes → is_binary (node_at nodes k) ≡ false
     → IsWalking nodes levels answer draws replies (suc k) x v
     → AreHeld nodes levels (transcript nodes levels answer draws replies) k k y u
     → IsClear nodes levels (transcript nodes levels answer draws replies) (suc (length replies)) k
@@ -51,14 +45,16 @@ walk_more nodes levels answer draws replies k x y v u lk b w F clear =
     }
 
 -- a place among those that are handed down
-handed_there : (a b n first c d y : ℕ) (own : ℕ → Point) (old : Point) → a ≡ b → c ≡ first + d → d < n → cond (eqb a b && is_among first n c) (own (c - first)) old y ≡ own d y
+handed_there : (a b n first c d y : ℕ) (own : ℕ → Point) (old : Point) → a ≡ b → c ≡ first + d → d < n
+    → cond (eqb a b && is_among first n c) (own (c - first)) old y ≡ own d y
 handed_there a b n first c d y own old e q l =
     let among : is_among first n c ≡ true = and_from (ltb c (first + n)) (ltb first (suc c)) (lt-ltb c (first + n) (omega arith)) (lt-ltb first (suc c) (omega arith)) in
     let back : c - first ≡ d = omega arith in
     ap (λ s. s y) (cond-true (eqb a b && is_among first n c) (own (c - first)) old (and_from (eqb a b) (is_among first n c) (eq-eqb a b e) among)) ∙ ap (λ z. own z y) back
 
 -- a place before them
-handed_before : (a b n first c y : ℕ) (own : ℕ → Point) (old : Point) → (a ≡ b → c < first) → cond (eqb a b && is_among first n c) (own (c - first)) old y ≡ old y
+handed_before : (a b n first c y : ℕ) (own : ℕ → Point) (old : Point) → (a ≡ b → c < first)
+    → cond (eqb a b && is_among first n c) (own (c - first)) old y ≡ old y
 handed_before a b n first c y own old h = ap (λ s. s y) (cond-false (eqb a b && is_among first n c) (own (c - first)) old (elim (cases_eq a b) [
   | inl e ↦ second (eqb a b) (ltb c (first + n)) (ltb first (suc c)) (le-ltb first (suc c) (let l = h e in omega arith))
   | inr ne ↦ one (eqb a b) (is_among first n c) (ne_eqb a b ne)
@@ -71,11 +67,13 @@ handed_before a b n first c y own old h = ap (λ s. s y) (cond-false (eqb a b &&
     second p q r e = grind arith
 
 -- where the claims of a circuit are kept
-pub is_place : (c : OrderedCircuit) (p : PointTable) (a d f : ℕ) → p.rows ≡ (layout_of c).rows → a < length c.nodes → d < claims c.nodes a → f < length (free c.nodes (length c.order) a) → IsPlace p.rows a d f
+pub is_place : (c : OrderedCircuit) (p : PointTable) (a d f : ℕ) → p.rows ≡ (layout_of c).rows → a < length c.nodes → d < claims c.nodes a
+    → f < length (free c.nodes (length c.order) a) → IsPlace p.rows a d f
 is_place c p a d f e la ld lf =
     subst (λ z. IsPlace z a d f) (sym e) (let r = is_row c a la in let n = length-rows c in let m = r.count in let w = r.width in (omega arith, omega arith, omega arith))
 
-pub value_place : (c : OrderedCircuit) (p : PointTable) (vs : List ℕ) (a d : ℕ) → p.rows ≡ (layout_of c).rows → a < length c.nodes → value_in p vs a d ≡ get_or vs (sum_by (claims c.nodes) (below a) + d) 0
+pub value_place : (c : OrderedCircuit) (p : PointTable) (vs : List ℕ) (a d : ℕ) → p.rows ≡ (layout_of c).rows → a < length c.nodes
+    → value_in p vs a d ≡ get_or vs (sum_by (claims c.nodes) (below a) + d) 0
 value_place c p vs a d e la = ap (λ z. get_or vs ((row_at z a).first + d) 0) e ∙ ap (λ z. get_or vs (z + d) 0) (is_row c a la).first
 
 -- the values that stand before those handed down to b, on any node

@@ -2,7 +2,6 @@
 use Rattle.std.proofs.Common.{arith, ℕ, suc, ◌≡◌, ◌+◌, ◌<◌, ◌≤◌, ◌⊎◌, ◌∙◌, ap, subst, sym, List, length, get_or}
 use mathlib.Core.Path.{ap₂}
 use Rattle.std.specs.Prelude.{sum_by}
-use Rattle.blic_model.specs.declared.node.Node.TheVariants.{Not, Fix}
 use Rattle.blic_model.specs.Circuit.{OrderedCircuit, node_at, below}
 use Rattle.blic_model.specs.Counts.{claims}
 use Rattle.blic_claims.specs.Places.{given, places_of, Places, layout_of, row_at, first_place, second_place}
@@ -18,14 +17,17 @@ handed_of_layout c l e = ap (λ z. length z.handed) e ∙ length-handed c
 pub row_of_layout : (c : OrderedCircuit) (l : Places) (k : ℕ) (r : Row) → l ≡ layout_of c → k < length c.nodes → r ≡ row_at l.rows k → IsRow c k r
 row_of_layout c l k r e lk q = subst (IsRow c k) (sym (q ∙ ap (λ z. row_at z.rows k) e)) (is_row c k lk)
 
-pub first_of_layout : (c : OrderedCircuit) (l : Places) (k n : ℕ) → l ≡ layout_of c → k < length c.nodes → n ≡ first_place l k → n ≡ (places_of c.nodes k (node_at c.nodes k)).0
+pub first_of_layout : (c : OrderedCircuit) (l : Places) (k n : ℕ) → l ≡ layout_of c → k < length c.nodes → n ≡ first_place l k
+    → n ≡ (places_of c.nodes k (node_at c.nodes k)).0
 first_of_layout c l k n e lk q = q ∙ (ap (λ z. first_place z k) e ∙ first_is c k lk)
 
-pub second_of_layout : (c : OrderedCircuit) (l : Places) (k n : ℕ) → l ≡ layout_of c → k < length c.nodes → n ≡ second_place l k → n ≡ (places_of c.nodes k (node_at c.nodes k)).1
+pub second_of_layout : (c : OrderedCircuit) (l : Places) (k n : ℕ) → l ≡ layout_of c → k < length c.nodes → n ≡ second_place l k
+    → n ≡ (places_of c.nodes k (node_at c.nodes k)).1
 second_of_layout c l k n e lk q = q ∙ (ap (λ z. second_place z k) e ∙ second_is c k lk)
 
 -- the values handed down to a child stand before the node's own
-pub handed_before_row : (c : OrderedCircuit) (k b first : ℕ) (r s : Row) → IsRow c k r → IsRow c b s → b < k → first ≡ given c.nodes (suc k) b → given c.nodes (suc k) b + claims c.nodes k ≤ claims c.nodes b
+pub handed_before_row : (c : OrderedCircuit) (k b first : ℕ) (r s : Row) → IsRow c k r → IsRow c b s → b < k → first ≡ given c.nodes (suc k) b
+    → given c.nodes (suc k) b + claims c.nodes k ≤ claims c.nodes b
     → s.first + first + r.claims ≤ r.first
 handed_before_row c k b first r s R S l e room =
     let n = R.count in
@@ -34,7 +36,8 @@ handed_before_row c k b first r s R S l e room =
     omega (arith, sum_apart (claims c.nodes) b k l)
 
 -- the values of a node's claims are kept
-pub row_within : (c : OrderedCircuit) (k end : ℕ) (r : Row) → IsRow c k r → k < length c.nodes → end ≡ sum_by (claims c.nodes) (below (length c.nodes)) → r.first + r.claims ≤ end
+pub row_within : (c : OrderedCircuit) (k end : ℕ) (r : Row) → IsRow c k r → k < length c.nodes
+    → end ≡ sum_by (claims c.nodes) (below (length c.nodes)) → r.first + r.claims ≤ end
 row_within c k end r R l e =
     let n = R.count in
     let f = R.first in

@@ -1,29 +1,26 @@
 -- A reply of polynomials, and the draw after it.
-use Rattle.std.proofs.Common.{arith, ℕ, zero, suc, ◌≡◌, ◌+◌, ◌-◌, ◌<◌, ◌≤◌, refl, sym, ◌∙◌, ap, subst, inl, inr, List, [], ◌∷◌, ◌++◌, length, get_or, drop, Bool, true, false, cond, eqb, ◌&&◌}
-use Rattle.std.proofs.lemmas.Bool.{cases_eq, cases_lt, eq-eqb, ne_eqb, cond-true, cond-false}
-use Rattle.std.proofs.lemmas.List.{get_or_append_left, get_or_push, length-append, length_push}
-use Rattle.std.specs.Prelude.{map, find, Option, Some, None, not}
+use Rattle.std.proofs.Common.{arith, ℕ, suc, ◌≡◌, ◌+◌, ◌<◌, ◌≤◌, refl, sym, ◌∙◌, ap, inl, inr, List, [], ◌∷◌, ◌++◌, length, get_or, Bool, cond, eqb}
+use Rattle.std.proofs.lemmas.Bool.{cases_lt, eq-eqb, ne_eqb, cond-true}
+use Rattle.std.proofs.lemmas.List.{get_or_append_left, get_or_push, length_push}
+use Rattle.std.specs.Prelude.{map, find, Some, None, not}
 use mathlib.Core.Path.{ap₂}
 use Rattle.blic_field.specs.Quadratic.{Quadratic, at}
 use Rattle.blic_poly2.specs.Poly.{reduced_at}
-use Rattle.blic_model.proofs.Put.{put_here, put_other}
-use Rattle.blic_model.specs.Circuit.{node_at, below, free, root}
-use Rattle.blic_model.specs.Counts.{is_binary, claims}
-use Rattle.blic_model.specs.Value.{put}
+use Rattle.blic_model.specs.Circuit.{below, free, root}
+use Rattle.blic_model.specs.Counts.{claims}
 use Rattle.blic_model.specs.declared.node.Node.{Node}
-use Rattle.blic_claims.proofs.Agreement.{AgreeAt, claims_agree, node_point_agree, point_at_agree}
+use Rattle.blic_claims.proofs.Agreement.{claims_agree}
 use Rattle.blic_claims.proofs.ClaimCounts.{length-claims_on}
-use Rattle.blic_claims.proofs.Drawn.{point_at_more, point_at_own, free_rise}
-use Rattle.blic_claims.proofs.Turns.{values_first, draws_first, binary_inside, polys_below, polys_turn}
-use Rattle.blic_claims.specs.Claims.{Transcript, Claim, claims_on, no_claim, node_point, point_at}
-use Rattle.blic_claims.specs.Turns.{sum_above, draw_number, polys_number, values_number, Reply, Polys, ForPolys, ForValues, turns, transcript, polys_of, values_of, no_reply, replies_above}
+use Rattle.blic_claims.proofs.Drawn.{point_at_own}
+use Rattle.blic_claims.proofs.Turns.{polys_below, polys_turn}
+use Rattle.blic_claims.specs.Claims.{Transcript, Claim, claims_on, no_claim, point_at}
+use Rattle.blic_claims.specs.Turns.{draw_number, polys_number, Reply, Polys, ForPolys, ForValues, turns, transcript, polys_of, no_reply, replies_above}
 use Rattle.blic_verifier.proofs.AddedReply.{agree_reply, agree_above, held_kept, sound_kept}
 use Rattle.blic_verifier.proofs.Fitting.{fits_more}
 use Rattle.blic_verifier.proofs.Finding.{find_mapped, find_mapped_none}
-use Rattle.blic_verifier.proofs.Shown.{replies_above_falls, polys_verdict}
-use Rattle.blic_verifier.proofs.ShownKept.{Agree}
+use Rattle.blic_verifier.proofs.Shown.{polys_verdict}
 use Rattle.blic_verifier.specs.Acceptance.{Check, no_poly, sent, value_at, poly_check, fails}
-use Rattle.blic_verifier.specs.Standing.{count_from, AreHeld, HasPoints, HasValues, IsReady, IsDrawing}
+use Rattle.blic_verifier.specs.Standing.{IsReady, IsDrawing}
 use Rattle.blic_verifier.specs.Verdict.{fault_upto, place_of}
 use Rattle.blic_verifier.specs.declared.place.Part.TheVariants.{Poly}
 
@@ -31,21 +28,25 @@ use Rattle.blic_verifier.specs.declared.place.Part.TheVariants.{Poly}
 abbrev pub with_polys : List Node → ℕ → Bool → List ℕ → List Reply → List Quadratic → Transcript
 with_polys nodes levels answer draws replies ps = transcript nodes levels answer draws (replies ++ Polys ps ∷ [])
 
-pub reply_place : (nodes : List Node) (levels : ℕ) (answer : Bool) (draws : List ℕ) (replies : List Reply) (k i : ℕ) (x : ℕ → ℕ → ℕ → ℕ) (v : ℕ → ℕ → ℕ) → IsReady nodes levels answer draws replies k (suc i) x v → polys_number nodes levels k i ≡ length replies
+pub reply_place : (nodes : List Node) (levels : ℕ) (answer : Bool) (draws : List ℕ) (replies : List Reply) (k i : ℕ) (x : ℕ → ℕ → ℕ → ℕ) (v : ℕ → ℕ → ℕ)
+    → IsReady nodes levels answer draws replies k (suc i) x v → polys_number nodes levels k i ≡ length replies
 reply_place nodes levels answer draws replies k i x v r = (let l = r.left in let e = r.reply_count in omega arith)
 
-polys_are : (nodes : List Node) (levels : ℕ) (answer : Bool) (draws : List ℕ) (replies : List Reply) (k i : ℕ) (ps : List Quadratic) → polys_number nodes levels k i ≡ length replies → (with_polys nodes levels answer draws replies ps).polys k i ≡ ps
+polys_are : (nodes : List Node) (levels : ℕ) (answer : Bool) (draws : List ℕ) (replies : List Reply) (k i : ℕ) (ps : List Quadratic)
+    → polys_number nodes levels k i ≡ length replies → (with_polys nodes levels answer draws replies ps).polys k i ≡ ps
 unfolding transcript
 polys_are nodes levels answer draws replies k i ps e = ap polys_of (get_or_push replies (Polys ps) no_reply (polys_number nodes levels k i) (sym e))
 
-claims_are : (nodes : List Node) (levels : ℕ) (answer : Bool) (draws : List ℕ) (replies : List Reply) (ps : List Quadratic) (k : ℕ) → k ≤ root nodes → replies_above nodes levels k ≤ length replies
+claims_are : (nodes : List Node) (levels : ℕ) (answer : Bool) (draws : List ℕ) (replies : List Reply) (ps : List Quadratic) (k : ℕ) → k ≤ root nodes
+    → replies_above nodes levels k ≤ length replies
     → claims_on nodes levels (transcript nodes levels answer draws replies) k ≡ claims_on nodes levels (with_polys nodes levels answer draws replies ps) k
 unfolding transcript
 claims_are nodes levels answer draws replies ps k l s =
     claims_agree nodes levels (transcript nodes levels answer draws replies) (with_polys nodes levels answer draws replies ps) refl k (agree_above nodes levels answer draws replies (Polys ps) k s) l
 
 -- the values carried from the levels drawn stay
-value_at_kept : (nodes : List Node) (levels : ℕ) (answer : Bool) (draws : List ℕ) (replies : List Reply) (ps : List Quadratic) (k c i : ℕ) (cl : Claim) → i ≤ length (free nodes levels k) → (i < length (free nodes levels k) → polys_number nodes levels k i < length replies)
+value_at_kept : (nodes : List Node) (levels : ℕ) (answer : Bool) (draws : List ℕ) (replies : List Reply) (ps : List Quadratic) (k c i : ℕ) (cl : Claim)
+    → i ≤ length (free nodes levels k) → (i < length (free nodes levels k) → polys_number nodes levels k i < length replies)
     → value_at nodes levels (transcript nodes levels answer draws replies) k c cl i ≡ value_at nodes levels (with_polys nodes levels answer draws replies ps) k c cl i
 unfolding transcript
 value_at_kept nodes levels answer draws replies ps k c i cl li h = elim (cases_lt i (length (free nodes levels k))) [
@@ -59,7 +60,8 @@ value_at_kept nodes levels answer draws replies ps k c i cl li h = elim (cases_l
 ]
 
 -- one claim's condition, in what is stored
-pub left_is : (nodes : List Node) (levels : ℕ) (answer : Bool) (draws : List ℕ) (replies : List Reply) (k i c : ℕ) (x : ℕ → ℕ → ℕ → ℕ) (v : ℕ → ℕ → ℕ) (ps : List Quadratic) → IsReady nodes levels answer draws replies k (suc i) x v → c < claims nodes k
+pub left_is : (nodes : List Node) (levels : ℕ) (answer : Bool) (draws : List ℕ) (replies : List Reply) (k i c : ℕ) (x : ℕ → ℕ → ℕ → ℕ) (v : ℕ → ℕ → ℕ) (ps : List Quadratic)
+    → IsReady nodes levels answer draws replies k (suc i) x v → c < claims nodes k
     → (poly_check nodes levels (with_polys nodes levels answer draws replies ps) k (claims_on nodes levels (with_polys nodes levels answer draws replies ps) k) i c).left ≡ reduced_at (get_or ps c no_poly) (x k c i)
 left_is nodes levels answer draws replies k i c x v ps r lc =
     let lk = r.inside in
@@ -72,7 +74,8 @@ left_is nodes levels answer draws replies k i c x v ps r lc =
     ap₂ (λ qs cs. reduced_at (get_or qs c no_poly) ((get_or cs c no_claim).point y)) (polys_are nodes levels answer draws replies k i ps t) (sym (claims_are nodes levels answer draws replies ps k (omega arith) (omega arith)))
     ∙ ap (reduced_at (get_or ps c no_poly)) (sym (r.points c i lc (omega arith) ∙ (ap (λ z. point_at nodes levels T k cl z y) e ∙ point_at_own nodes levels T k cl i (omega arith))))
 
-pub right_is : (nodes : List Node) (levels : ℕ) (answer : Bool) (draws : List ℕ) (replies : List Reply) (k i c : ℕ) (x : ℕ → ℕ → ℕ → ℕ) (v : ℕ → ℕ → ℕ) (ps : List Quadratic) → IsReady nodes levels answer draws replies k (suc i) x v → c < claims nodes k
+pub right_is : (nodes : List Node) (levels : ℕ) (answer : Bool) (draws : List ℕ) (replies : List Reply) (k i c : ℕ) (x : ℕ → ℕ → ℕ → ℕ) (v : ℕ → ℕ → ℕ) (ps : List Quadratic)
+    → IsReady nodes levels answer draws replies k (suc i) x v → c < claims nodes k
     → (poly_check nodes levels (with_polys nodes levels answer draws replies ps) k (claims_on nodes levels (with_polys nodes levels answer draws replies ps) k) i c).right ≡ v k c
 right_is nodes levels answer draws replies k i c x v ps r lc =
     let lk = r.inside in
@@ -85,7 +88,8 @@ right_is nodes levels answer draws replies k i c x v ps r lc =
     ∙ (ap (λ z. value_at nodes levels T k c (get_or (claims_on nodes levels T k) c no_claim) z) e ∙ sym (r.values c lc)))
 
 -- The verdict on a reply of polynomials is the first condition among its claims that fails.
-pub polys_found : (nodes : List Node) (levels : ℕ) (answer : Bool) (draws : List ℕ) (replies : List Reply) (k i : ℕ) (x : ℕ → ℕ → ℕ → ℕ) (v : ℕ → ℕ → ℕ) (ps : List Quadratic) → IsReady nodes levels answer draws replies k (suc i) x v
+pub polys_found : (nodes : List Node) (levels : ℕ) (answer : Bool) (draws : List ℕ) (replies : List Reply) (k i : ℕ) (x : ℕ → ℕ → ℕ → ℕ) (v : ℕ → ℕ → ℕ) (ps : List Quadratic)
+    → IsReady nodes levels answer draws replies k (suc i) x v
     → fault_upto nodes levels (with_polys nodes levels answer draws replies ps) (suc (length (replies ++ Polys ps ∷ [])))
     ≡ find fails (map (poly_check nodes levels (with_polys nodes levels answer draws replies ps) k (claims_on nodes levels (with_polys nodes levels answer draws replies ps) k) i) (below (claims nodes k)))
 polys_found nodes levels answer draws replies k i x v ps r =
@@ -101,7 +105,8 @@ polys_found nodes levels answer draws replies k i x v ps r =
     ∙ ap (λ n. find fails (map (poly_check nodes levels S k (claims_on nodes levels S k) i) (below n))) (length-claims_on nodes levels S k))
 
 -- The first claim whose polynomial doesn't fit is the fault.
-pub polys_fault : (nodes : List Node) (levels : ℕ) (answer : Bool) (draws : List ℕ) (replies : List Reply) (k i c : ℕ) (x : ℕ → ℕ → ℕ → ℕ) (v : ℕ → ℕ → ℕ) (ps : List Quadratic) → IsReady nodes levels answer draws replies k (suc i) x v
+pub polys_fault : (nodes : List Node) (levels : ℕ) (answer : Bool) (draws : List ℕ) (replies : List Reply) (k i c : ℕ) (x : ℕ → ℕ → ℕ → ℕ) (v : ℕ → ℕ → ℕ) (ps : List Quadratic)
+    → IsReady nodes levels answer draws replies k (suc i) x v
     → c < claims nodes k → ((d : ℕ) → d < c → reduced_at (get_or ps d no_poly) (x k d i) ≡ v k d) → (reduced_at (get_or ps c no_poly) (x k c i) ≡ v k c → ⊥)
     → (chk : Check) × (fault_upto nodes levels (with_polys nodes levels answer draws replies ps) (suc (length (replies ++ Polys ps ∷ []))) ≡ Some chk) × (place_of chk ≡ record { node = k; part = Poly i; claim = c })
 polys_fault nodes levels answer draws replies k i c x v ps r lc h bad =
@@ -116,8 +121,10 @@ polys_fault nodes levels answer draws replies k i c x v ps r lc h bad =
     )
 
 -- Where all fit, the draw stands next.
-pub polys_fine : (nodes : List Node) (levels : ℕ) (answer : Bool) (draws : List ℕ) (replies : List Reply) (k i : ℕ) (x : ℕ → ℕ → ℕ → ℕ) (v : ℕ → ℕ → ℕ) (ps qs : List Quadratic) → IsReady nodes levels answer draws replies k (suc i) x v
-    → length ps ≡ claims nodes k → ((d : ℕ) → d < claims nodes k → reduced_at (get_or ps d no_poly) (x k d i) ≡ v k d) → ((d : ℕ) → d < claims nodes k → get_or qs d no_poly ≡ get_or ps d no_poly)
+pub polys_fine : (nodes : List Node) (levels : ℕ) (answer : Bool) (draws : List ℕ) (replies : List Reply) (k i : ℕ) (x : ℕ → ℕ → ℕ → ℕ) (v : ℕ → ℕ → ℕ) (ps qs : List Quadratic)
+    → IsReady nodes levels answer draws replies k (suc i) x v
+    → length ps ≡ claims nodes k → ((d : ℕ) → d < claims nodes k → reduced_at (get_or ps d no_poly) (x k d i) ≡ v k d)
+    → ((d : ℕ) → d < claims nodes k → get_or qs d no_poly ≡ get_or ps d no_poly)
     → IsDrawing nodes levels answer draws (replies ++ Polys ps ∷ []) k i x v qs
 unfolding transcript
 polys_fine nodes levels answer draws replies k i x v ps qs r count h same =

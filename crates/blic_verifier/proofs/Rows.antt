@@ -1,14 +1,13 @@
 -- Where a circuit's layout keeps the claims.
-use Rattle.std.proofs.Common.{arith, ℕ, zero, suc, ◌≡◌, ◌+◌, ◌-◌, ◌<◌, ◌≤◌, refl, sym, ◌∙◌, ap, subst, inl, inr, List, [], ◌∷◌, ◌++◌, length, get_or, Bool, true, cond, eqb}
-use Rattle.std.specs.Prelude.{map, sum_by}
+use Rattle.std.proofs.Common.{arith, ℕ, zero, suc, ◌≡◌, ◌+◌, ◌-◌, ◌<◌, ◌≤◌, refl, sym, ◌∙◌, ap, subst, inl, inr, List, [], ◌∷◌, length, get_or, cond, eqb}
+use Rattle.std.specs.Prelude.{sum_by}
 use Rattle.std.proofs.lemmas.Bool.{cases_eq, eq-eqb, cond-true}
 use Rattle.std.proofs.lemmas.List.{get_or-map, length-map}
 use Rattle.std.proofs.lemmas.List.Sums.{sum_by-append}
 use Rattle.blic_model.specs.declared.node.Node.{Node}
-use Rattle.blic_model.specs.declared.node.Node.TheVariants.{Const, Var, Not, Fix, And, Or}
 use Rattle.blic_model.specs.Circuit.{OrderedCircuit, node_at, root, below, free}
 use Rattle.blic_model.specs.Counts.{handed_down, claims}
-use Rattle.blic_claims.specs.Places.{given, row_of, places_of, Places, layout_of, no_row, row_at, first_place, second_place}
+use Rattle.blic_claims.specs.Places.{given, row_of, places_of, layout_of, no_row, row_at, first_place, second_place}
 use Rattle.blic_claims.specs.declared.layout.Row.{Row}
 use Rattle.blic_claims.proofs.Lists.{length-below, get_or-below}
 use Rattle.blic_claims.proofs.HandedClaims.{given_all, given_more, given_falls}
@@ -65,14 +64,16 @@ sum_apart f j (suc n) l = elim (cases_eq j n) [
 ]
 
 -- what a node hands down has its place among the claims on the child
-pub handed_within : (nodes : List Node) (k a : ℕ) → a < k → k ≤ root nodes → given nodes (suc k) a + handed_down (node_at nodes k) (claims nodes k) a ≤ claims nodes a
+pub handed_within : (nodes : List Node) (k a : ℕ) → a < k → k ≤ root nodes
+    → given nodes (suc k) a + handed_down (node_at nodes k) (claims nodes k) a ≤ claims nodes a
 handed_within nodes k a l lk =
     let e : suc a + (k - suc a) ≡ k = omega arith in
     let u : given nodes (suc a + (k - suc a)) a ≡ given nodes k a = ap (λ z. given nodes z a) e in
     omega (arith, given_all nodes a (omega arith), given_more nodes k a lk, given_falls nodes a (k - suc a) (suc a) (omega arith), u)
 
 -- the claims of a `Not` or `Fix` node are handed down to its child all
-pub handed_all : (nodes : List Node) (k b n : ℕ) → b < k → k ≤ root nodes → handed_down (node_at nodes k) (claims nodes k) b ≡ cond (eqb b b) n 0 → given nodes (suc k) b + n ≤ claims nodes b
+pub handed_all : (nodes : List Node) (k b n : ℕ) → b < k → k ≤ root nodes → handed_down (node_at nodes k) (claims nodes k) b ≡ cond (eqb b b) n 0
+    → given nodes (suc k) b + n ≤ claims nodes b
 handed_all nodes k b n l lk e =
     let q : handed_down (node_at nodes k) (claims nodes k) b ≡ n = e ∙ cond-true (eqb b b) n 0 (eq-eqb b b refl) in
     omega (arith, handed_within nodes k b l lk)

@@ -1,23 +1,22 @@
 -- Which replies show the conditions of a node.
-use Rattle.std.proofs.Common.{arith, ℕ, zero, suc, ◌≡◌, ◌+◌, ◌-◌, ◌<◌, ◌≤◌, refl, sym, ◌∙◌, ap, subst, inl, inr, List, [], ◌∷◌, ◌++◌, length, get_or, drop, Bool, true, false, cond, ltb, eqb}
-use Rattle.std.proofs.lemmas.Bool.{cases_eq, lt-ltb, le-ltb}
+use Rattle.std.proofs.Common.{arith, ℕ, ◌≡◌, ◌+◌, ◌<◌, ◌≤◌, refl, sym, ◌∙◌, ap, List, [], ◌∷◌, ◌++◌, length, drop, Bool, true, false, cond, ltb}
+use Rattle.std.proofs.lemmas.Bool.{lt-ltb, le-ltb}
 use Rattle.std.proofs.lemmas.List.{append-nil}
 use Rattle.std.proofs.lemmas.List.Elements.{filter-append}
-use Rattle.std.specs.Prelude.{map, flat_map, filter, find, reverse, Option, Some, None, not}
+use Rattle.std.specs.Prelude.{map, flat_map, filter, find, reverse, None}
 use mathlib.Core.Path.{ap₂}
 use Rattle.blic_field.specs.Field.{or, mul}
-use Rattle.blic_model.specs.Circuit.{node_at, below, free, root}
+use Rattle.blic_model.specs.Circuit.{node_at, below, free}
 use Rattle.blic_model.specs.Counts.{is_binary}
-use Rattle.blic_model.specs.Value.{bit}
 use Rattle.blic_model.specs.declared.node.Node.{Node}
 use Rattle.blic_model.specs.declared.node.Node.TheVariants.{Const, Var, Not, Fix, And, Or}
-use Rattle.blic_claims.proofs.Turns.{above, above_step, sum_above_is, values_first}
-use Rattle.blic_claims.specs.Claims.{Transcript, Claim, claims_on, no_claim}
-use Rattle.blic_claims.specs.Turns.{sum_above, replies_above, polys_number, values_number}
-use Rattle.blic_verifier.proofs.Finding.{find_part, find_parts, none_part, filter_all, filter_nothing, find_skip, find_left, none_left}
+use Rattle.blic_claims.proofs.Turns.{above_step, sum_above_is, values_first}
+use Rattle.blic_claims.specs.Claims.{Transcript, Claim, claims_on}
+use Rattle.blic_claims.specs.Turns.{replies_above, polys_number, values_number}
+use Rattle.blic_verifier.proofs.Finding.{find_part, none_part, filter_all, filter_nothing, none_left}
 use Rattle.blic_verifier.proofs.ShownKept.{is_shown}
-use Rattle.blic_verifier.specs.Acceptance.{Check, fails, poly_check, ends_check, leaf_check, combine_check, binary_checks, node_checks, checks}
-use Rattle.blic_verifier.specs.Verdict.{checks_upto, fault_upto}
+use Rattle.blic_verifier.specs.Acceptance.{Check, fails, poly_check, ends_check, combine_check, binary_checks, node_checks, checks}
+use Rattle.blic_verifier.specs.Verdict.{fault_upto}
 
 pub replies_above_falls : (nodes : List Node) (levels k j : ℕ) → k < j → j < length nodes → replies_above nodes levels j ≤ replies_above nodes levels k
 replies_above_falls nodes levels k j h l =
@@ -63,7 +62,8 @@ shown_no_binary nodes levels T k n cs both h =
     (ap (λ b. cond b (combine_check nodes levels T k cs both ∷ []) []) last)
 
 -- all of a node's conditions are shown by the first n replies
-pub shown_all : (nodes : List Node) (levels : ℕ) (T : Transcript) (k n : ℕ) (m : Node) (cs : List Claim) → (is_binary m ≡ true → values_number nodes levels k + 1 < n) → replies_above nodes levels k < n
+pub shown_all : (nodes : List Node) (levels : ℕ) (T : Transcript) (k n : ℕ) (m : Node) (cs : List Claim)
+    → (is_binary m ≡ true → values_number nodes levels k + 1 < n) → replies_above nodes levels k < n
     → filter (is_shown n) (node_checks nodes levels T k m cs) ≡ node_checks nodes levels T k m cs
 shown_all nodes levels T k n (Const b) cs h s = filter_all (is_shown n) _ _ (λ c. lt-ltb _ n s)
 shown_all nodes levels T k n (Var x) cs h s = filter_all (is_shown n) _ _ (λ c. lt-ltb _ n s)
@@ -83,7 +83,8 @@ shown_nothing nodes levels T k n (And a b) cs s = shown_no_binary nodes levels T
 shown_nothing nodes levels T k n (Or a b) cs s = shown_no_binary nodes levels T k n cs _ (omega arith)
 
 -- the conditions of a binary node
-pub binary_is : (nodes : List Node) (levels : ℕ) (T : Transcript) (k : ℕ) (m : Node) (cs : List Claim) → is_binary m ≡ true → (both : ℕ) × (node_checks nodes levels T k m cs ≡ binary_checks nodes levels T k cs both)
+pub binary_is : (nodes : List Node) (levels : ℕ) (T : Transcript) (k : ℕ) (m : Node) (cs : List Claim) → is_binary m ≡ true
+    → (both : ℕ) × (node_checks nodes levels T k m cs ≡ binary_checks nodes levels T k cs both)
 binary_is nodes levels T k (Const b) cs e = absurd (cc e)
 binary_is nodes levels T k (Var x) cs e = absurd (cc e)
 binary_is nodes levels T k (Not a) cs e = absurd (cc e)
@@ -119,7 +120,8 @@ level_verdict nodes levels T k i cs both l e =
     ∙ ap (find fails) (filter_all (is_shown w) (poly_check nodes levels T k cs i) _ (λ c. lt-ltb _ w (omega arith)))))
 
 -- The first fault shown by the polynomials for level i of node k, where nothing before it fails, is the first among the claims.
-pub polys_verdict : (nodes : List Node) (levels : ℕ) (T : Transcript) (k i : ℕ) → k < length nodes → is_binary (node_at nodes k) ≡ true → i < length (free nodes levels k)
+pub polys_verdict : (nodes : List Node) (levels : ℕ) (T : Transcript) (k i : ℕ) → k < length nodes → is_binary (node_at nodes k) ≡ true
+    → i < length (free nodes levels k)
     → fault_upto nodes levels T (polys_number nodes levels k i + 1) ≡ None
     → fault_upto nodes levels T (polys_number nodes levels k i + 2) ≡ find fails (map (poly_check nodes levels T k (claims_on nodes levels T k) i) (below (length (claims_on nodes levels T k))))
 unfolding checks

@@ -1,6 +1,6 @@
 -- The conditions that the first replies show stand first in the list of all.
-use Rattle.std.proofs.Common.{arith, ℕ, zero, suc, ◌≡◌, ◌+◌, ◌-◌, ◌<◌, ◌≤◌, refl, sym, ◌∙◌, ap, subst, ◌⊎◌, inl, inr, List, [], ◌∷◌, ◌++◌, length, Bool, true, false, cond, append_assoc}
-use Rattle.std.specs.Prelude.{map, flat_map, filter, find, reverse, Option, Some, None}
+use Rattle.std.proofs.Common.{arith, ℕ, zero, suc, ◌≡◌, ◌+◌, ◌<◌, ◌≤◌, refl, sym, ◌∙◌, ap, subst, ◌⊎◌, inl, inr, List, [], ◌∷◌, ◌++◌, length, Bool, true, false, cond, append_assoc}
+use Rattle.std.specs.Prelude.{map, flat_map, filter, find, reverse}
 use mathlib.Core.Path.{ap₂}
 use Rattle.std.proofs.lemmas.Bool.{cases_lt, lt-ltb, le-ltb}
 use Rattle.std.proofs.lemmas.List.{append-nil}
@@ -11,7 +11,7 @@ use Rattle.blic_model.specs.Counts.{is_binary}
 use Rattle.blic_claims.specs.Claims.{Transcript, Claim, claims_on}
 use Rattle.blic_claims.specs.Turns.{replies_above, polys_number, values_number}
 use Rattle.blic_claims.proofs.Turns.{reverse_below, values_first}
-use Rattle.blic_verifier.specs.Acceptance.{Check, fails, poly_check, ends_check, combine_check, binary_checks, node_checks, checks}
+use Rattle.blic_verifier.specs.Acceptance.{fails, poly_check, ends_check, combine_check, binary_checks, checks}
 use Rattle.blic_verifier.specs.VerdictLaws.{ShownFaultIsFirst}
 use Rattle.blic_verifier.specs.Walking.{conditions}
 use Rattle.blic_verifier.proofs.Finding.{found, filter_all, filter_nothing}
@@ -56,12 +56,14 @@ first_parts p g (suc n) h =
     nothing p g (suc m) h =
         ap (λ z. filter p (flat_map g z)) (reverse_below m) ∙ (filter-append p (g m) (flat_map g (reverse (below m))) ∙ ap₂ (λ a b. a ++ b) (h m (omega arith)) (nothing p g m (λ j l. h j (omega arith))))
 
-    go : (b : Bool) × cond b (filter p (g n) ≡ g n) (KeepsFirst p (g n) × ((j : ℕ) → j < n → filter p (g j) ≡ [])) → KeepsFirst p (flat_map g (reverse (below n))) → KeepsFirst p (g n ++ flat_map g (reverse (below n)))
+    go : (b : Bool) × cond b (filter p (g n) ≡ g n) (KeepsFirst p (g n) × ((j : ℕ) → j < n → filter p (g j) ≡ []))
+        → KeepsFirst p (flat_map g (reverse (below n))) → KeepsFirst p (g n ++ flat_map g (reverse (below n)))
     go (true, e) ih = first_after p (g n) (flat_map g (reverse (below n))) e ih
     go (false, (f, e)) ih = first_before p (g n) (flat_map g (reverse (below n))) f (nothing p g n e)
 
 -- within a binary node
-binary_first : (nodes : List Node) (levels : ℕ) (T : Transcript) (k w : ℕ) (cs : List Claim) (both : ℕ) → KeepsFirst (is_shown w) (binary_checks nodes levels T k cs both)
+binary_first : (nodes : List Node) (levels : ℕ) (T : Transcript) (k w : ℕ) (cs : List Claim) (both : ℕ)
+    → KeepsFirst (is_shown w) (binary_checks nodes levels T k cs both)
 binary_first nodes levels T k w cs both = elim (cases_lt (values_number nodes levels k + 1) w) [
   | inl l ↦ all_first (is_shown w) (binary_checks nodes levels T k cs both) (shown_binary nodes levels T k w cs both l)
   | inr l ↦

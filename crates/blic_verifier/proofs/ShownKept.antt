@@ -27,8 +27,10 @@ use Rattle.blic_verifier.specs.declared.place.Part.TheVariants.{Poly, Ends, Comb
 pub record Agree (nodes : List Node) (levels : ℕ) (T : Transcript) (S : Transcript) (n : ℕ) : Type 0 where
   pub answers : T.answer ≡ S.answer
   pub values : (k : ℕ) → is_binary (node_at nodes k) ≡ true → values_number nodes levels k + 1 < n → T.values k ≡ S.values k
-  pub polys : (k i : ℕ) → is_binary (node_at nodes k) ≡ true → i < length (free nodes levels k) → polys_number nodes levels k i + 1 < n → T.polys k i ≡ S.polys k i
-  pub draws : (k i : ℕ) → is_binary (node_at nodes k) ≡ true → i < length (free nodes levels k) → polys_number nodes levels k i + 2 < n → T.draw k i ≡ S.draw k i
+  pub polys : (k i : ℕ) → is_binary (node_at nodes k) ≡ true → i < length (free nodes levels k) → polys_number nodes levels k i + 1 < n
+      → T.polys k i ≡ S.polys k i
+  pub draws : (k i : ℕ) → is_binary (node_at nodes k) ≡ true → i < length (free nodes levels k) → polys_number nodes levels k i + 2 < n
+      → T.draw k i ≡ S.draw k i
 
 pub pick : {Y : Type 0} (b c : Bool) (u v : Y) (xs ys : List Y) → b ≡ c → (b ≡ true → u ≡ v) → xs ≡ ys → cond b (u ∷ xs) xs ≡ cond c (v ∷ ys) ys
 pick true true u v xs ys e h q = ap₂ (λ a b. a ∷ b) (h refl) q
@@ -36,16 +38,19 @@ pick false false u v xs ys e h q = q
 pick true false u v xs ys e h q = absurd (cc e)
 pick false true u v xs ys e h q = absurd (cc e)
 
-pub filter_map_agree : {Y : Type 0} (test : Y → Bool) (f g : ℕ → Y) (xs : List ℕ) → ((x : ℕ) → test (f x) ≡ test (g x)) → ((x : ℕ) → test (f x) ≡ true → f x ≡ g x) → filter test (map f xs) ≡ filter test (map g xs)
+pub filter_map_agree : {Y : Type 0} (test : Y → Bool) (f g : ℕ → Y) (xs : List ℕ) → ((x : ℕ) → test (f x) ≡ test (g x))
+    → ((x : ℕ) → test (f x) ≡ true → f x ≡ g x) → filter test (map f xs) ≡ filter test (map g xs)
 filter_map_agree test f g [] e h = refl
 filter_map_agree test f g (x ∷ xs) e h = pick (test (f x)) (test (g x)) (f x) (g x) _ _ (e x) (h x) (filter_map_agree test f g xs e h)
 
-pub filter_flat_map_agree : {Y : Type 0} (test : Y → Bool) (f g : ℕ → List Y) (xs : List ℕ) → ((x : ℕ) → Contains xs x → filter test (f x) ≡ filter test (g x)) → filter test (flat_map f xs) ≡ filter test (flat_map g xs)
+pub filter_flat_map_agree : {Y : Type 0} (test : Y → Bool) (f g : ℕ → List Y) (xs : List ℕ)
+    → ((x : ℕ) → Contains xs x → filter test (f x) ≡ filter test (g x)) → filter test (flat_map f xs) ≡ filter test (flat_map g xs)
 filter_flat_map_agree test f g [] h = refl
 filter_flat_map_agree test f g (x ∷ xs) h =
     filter-append test (f x) (flat_map f xs) ∙ (ap₂ (λ a b. a ++ b) (h x (Contains-head x xs)) (filter_flat_map_agree test f g xs (λ y c. h y (Contains-append_right (x ∷ []) xs y c))) ∙ sym (filter-append test (g x) (flat_map g xs)))
 
-pub claims_upto : (nodes : List Node) (levels : ℕ) (T S : Transcript) (n : ℕ) → Agree nodes levels T S n → (k : ℕ) → k ≤ root nodes → sum_above nodes (λ j. length (free nodes levels j) + 1) k < n
+pub claims_upto : (nodes : List Node) (levels : ℕ) (T S : Transcript) (n : ℕ) → Agree nodes levels T S n → (k : ℕ) → k ≤ root nodes
+    → sum_above nodes (λ j. length (free nodes levels j) + 1) k < n
     → claims_on nodes levels T k ≡ claims_on nodes levels S k
 claims_upto nodes levels T S n a k l h =
     claims_agree nodes levels T S a.answers k (λ j q b.
@@ -55,7 +60,8 @@ claims_upto nodes levels T S n a k l h =
 length_same : (nodes : List Node) (levels : ℕ) (T S : Transcript) (k : ℕ) → length (claims_on nodes levels T k) ≡ length (claims_on nodes levels S k)
 length_same nodes levels T S k = length-claims_on nodes levels T k ∙ sym (length-claims_on nodes levels S k)
 
-pub value_at_same : (nodes : List Node) (levels : ℕ) (T S : Transcript) (n : ℕ) → Agree nodes levels T S n → (k j i : ℕ) (c d : Claim) → c ≡ d → is_binary (node_at nodes k) ≡ true → i ≤ length (free nodes levels k)
+pub value_at_same : (nodes : List Node) (levels : ℕ) (T S : Transcript) (n : ℕ) → Agree nodes levels T S n → (k j i : ℕ) (c d : Claim) → c ≡ d
+    → is_binary (node_at nodes k) ≡ true → i ≤ length (free nodes levels k)
     → (i < length (free nodes levels k) → polys_number nodes levels k i + 2 < n) → value_at nodes levels T k j c i ≡ value_at nodes levels S k j d i
 value_at_same nodes levels T S n a k j i c d e b l h = elim (cases_eq i (length (free nodes levels k))) [
   | inl q ↦ cond-true _ c.value (at (sent T k i j) (T.draw k i)) (eq-eqb _ _ q) ∙ (ap (λ x. x.value) e ∙ sym (cond-true _ d.value (at (sent S k i j) (S.draw k i)) (eq-eqb _ _ q)))
@@ -72,8 +78,10 @@ is_shown n c = ltb c.reply n
 pub shown_lt : (n r : ℕ) → ltb r n ≡ true → r < n
 shown_lt n r h = ltb-true r n h
 
-pub poly_same : (nodes : List Node) (levels : ℕ) (T S : Transcript) (n : ℕ) → Agree nodes levels T S n → (k : ℕ) → k ≤ root nodes → is_binary (node_at nodes k) ≡ true → (i j : ℕ) → i < length (free nodes levels k)
-    → is_shown n (poly_check nodes levels T k (claims_on nodes levels T k) i j) ≡ true → poly_check nodes levels T k (claims_on nodes levels T k) i j ≡ poly_check nodes levels S k (claims_on nodes levels S k) i j
+pub poly_same : (nodes : List Node) (levels : ℕ) (T S : Transcript) (n : ℕ) → Agree nodes levels T S n → (k : ℕ) → k ≤ root nodes
+    → is_binary (node_at nodes k) ≡ true → (i j : ℕ) → i < length (free nodes levels k)
+    → is_shown n (poly_check nodes levels T k (claims_on nodes levels T k) i j) ≡ true
+    → poly_check nodes levels T k (claims_on nodes levels T k) i j ≡ poly_check nodes levels S k (claims_on nodes levels S k) i j
 poly_same nodes levels T S n a k l b i j li h =
     let w : polys_number nodes levels k i + 1 < n = shown_lt n (polys_number nodes levels k i + 1) h in
     let cs : claims_on nodes levels T k ≡ claims_on nodes levels S k = claims_upto nodes levels T S n a k l (omega arith) in
@@ -82,8 +90,10 @@ poly_same nodes levels T S n a k l b i j li h =
     let v = value_at_same nodes levels T S n a k j (i + 1) _ _ c b (omega arith) (λ q. omega arith) in
     λ z. record { node = k; part = Poly i; claim = j; reply = polys_number nodes levels k i + 1; left = u z; right = v z }
 
-ends_same : (nodes : List Node) (levels : ℕ) (T S : Transcript) (n : ℕ) → Agree nodes levels T S n → (k : ℕ) → k ≤ root nodes → is_binary (node_at nodes k) ≡ true → (j : ℕ)
-    → is_shown n (ends_check nodes levels T k (claims_on nodes levels T k) j) ≡ true → ends_check nodes levels T k (claims_on nodes levels T k) j ≡ ends_check nodes levels S k (claims_on nodes levels S k) j
+ends_same : (nodes : List Node) (levels : ℕ) (T S : Transcript) (n : ℕ) → Agree nodes levels T S n → (k : ℕ) → k ≤ root nodes
+    → is_binary (node_at nodes k) ≡ true → (j : ℕ)
+    → is_shown n (ends_check nodes levels T k (claims_on nodes levels T k) j) ≡ true
+    → ends_check nodes levels T k (claims_on nodes levels T k) j ≡ ends_check nodes levels S k (claims_on nodes levels S k) j
 ends_same nodes levels T S n a k l b j h =
     let w : values_number nodes levels k + 1 < n = shown_lt n (values_number nodes levels k + 1) h in
     let cs : claims_on nodes levels T k ≡ claims_on nodes levels S k = claims_upto nodes levels T S n a k l (omega arith) in
@@ -91,7 +101,8 @@ ends_same nodes levels T S n a k l b j h =
     let v = value_at_same nodes levels T S n a k 0 0 _ _ (ap (λ z. get_or z 0 no_claim) cs) b (omega arith) (λ q. omega arith) in
     λ z. record { node = k; part = Ends; claim = j; reply = values_number nodes levels k + 1; left = u z; right = v z }
 
-binary_same : (nodes : List Node) (levels : ℕ) (T S : Transcript) (n : ℕ) → Agree nodes levels T S n → (k : ℕ) → k ≤ root nodes → is_binary (node_at nodes k) ≡ true → (join : ℕ × ℕ → ℕ)
+binary_same : (nodes : List Node) (levels : ℕ) (T S : Transcript) (n : ℕ) → Agree nodes levels T S n → (k : ℕ) → k ≤ root nodes
+    → is_binary (node_at nodes k) ≡ true → (join : ℕ × ℕ → ℕ)
     → filter (is_shown n) (binary_checks nodes levels T k (claims_on nodes levels T k) (join (T.values k))) ≡ filter (is_shown n) (binary_checks nodes levels S k (claims_on nodes levels S k) (join (S.values k)))
 binary_same nodes levels T S n a k l b join =
     let m : below (length (claims_on nodes levels T k)) ≡ below (length (claims_on nodes levels S k)) = ap below (length_same nodes levels T S k) in
@@ -136,7 +147,8 @@ node_same nodes levels T S n a k l (And c d) e = binary_same nodes levels T S n 
 node_same nodes levels T S n a k l (Or c d) e = binary_same nodes levels T S n a k l (ap is_binary e) (λ p. or p.0 p.1)
 
 -- The conditions shown so far stay as they are, whatever follows.
-pub checks_kept : (nodes : List Node) (levels : ℕ) (T S : Transcript) (n : ℕ) → Agree nodes levels T S n → checks_upto nodes levels T n ≡ checks_upto nodes levels S n
+pub checks_kept : (nodes : List Node) (levels : ℕ) (T S : Transcript) (n : ℕ) → Agree nodes levels T S n
+    → checks_upto nodes levels T n ≡ checks_upto nodes levels S n
 unfolding checks
 checks_kept nodes levels T S n a =
     filter_flat_map_agree (is_shown n) _ _ (reverse (below (length nodes))) (λ k c.

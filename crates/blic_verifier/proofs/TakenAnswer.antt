@@ -1,19 +1,19 @@
 -- The walk that begins with the answer.
-use Rattle.std.proofs.Common.{arith, ℕ, zero, suc, ◌≡◌, ◌+◌, ◌-◌, ◌<◌, ◌≤◌, refl, sym, ◌∙◌, ap, subst, inl, inr, List, [], ◌∷◌, length, get_or, set, take, Bool, true, false, cond, eqb, get_or-set_same}
+use Rattle.std.proofs.Common.{arith, ℕ, suc, ◌≡◌, ◌+◌, ◌-◌, ◌<◌, sym, ◌∙◌, ap, subst, inl, inr, List, [], length, get_or, set, Bool, true, false, cond, eqb, get_or-set_same}
 use Rattle.std.specs.Prelude.{sum_by}
 use mathlib.Core.Path.{ap₂}
 use Rattle.std.proofs.lemmas.Bool.{cases_eq, eq-eqb, ne_eqb, cond-true, cond-false}
 use Rattle.blic_model.specs.declared.node.Node.{Node}
-use Rattle.blic_model.specs.Circuit.{OrderedCircuit, node_at, root, below, table, is_free, free}
+use Rattle.blic_model.specs.Circuit.{OrderedCircuit, node_at, root, below, table, free}
 use Rattle.blic_model.specs.Counts.{is_binary, handed_down, claims}
 use Rattle.blic_model.specs.Value.{bit}
 use Rattle.blic_model.specs.Shape.{IsShaped}
 use Rattle.blic_model.proofs.Shaped.{size_of, closed_of}
-use Rattle.blic_claims.specs.Claims.{Transcript, claims_on, claims_on_entry, claim_at, no_claim}
+use Rattle.blic_claims.specs.Claims.{claims_on, claims_on_entry, claim_at, no_claim}
 use Rattle.blic_claims.specs.Places.{given, layout_of}
-use Rattle.blic_claims.specs.Points.{PointTable, coordinate}
-use Rattle.blic_claims.specs.Turns.{transcript, draws_above, replies_above}
-use Rattle.blic_claims.proofs.Turns.{above, above-own, sum_above_is}
+use Rattle.blic_claims.specs.Points.{PointTable}
+use Rattle.blic_claims.specs.Turns.{transcript}
+use Rattle.blic_claims.proofs.Turns.{above-own, sum_above_is}
 use Rattle.blic_claims.proofs.SomeClaim.{some_claim_law}
 use Rattle.blic_verifier.specs.Standing.{count_from}
 use Rattle.blic_verifier.specs.Holding.{value_in, WalksTo}
@@ -46,13 +46,15 @@ none_given nodes a l =
     ap (λ z. sum_by (λ n. handed_down (node_at nodes (root nodes - n)) (claims nodes (root nodes - n)) a) (below z)) e
 
 -- the root's first claim has its place
-pub root_place : (c : OrderedCircuit) → IsShaped c.nodes (length c.order) → sum_by (claims c.nodes) (below (root c.nodes)) < sum_by (claims c.nodes) (below (length c.nodes))
+pub root_place : (c : OrderedCircuit) → IsShaped c.nodes (length c.order)
+    → sum_by (claims c.nodes) (below (root c.nodes)) < sum_by (claims c.nodes) (below (length c.nodes))
 root_place c s =
     let some = some_claim_law c.nodes (length c.order) s (root c.nodes) (let z = size_of c.nodes (length c.order) s in omega (arith, z.0)) in
     let z = size_of c.nodes (length c.order) s in
     omega (arith, some, sum_apart (claims c.nodes) (root c.nodes) (length c.nodes) (omega (arith, z.0)))
 
-pub answer_walk : (c : OrderedCircuit) (answer : Bool) (p : PointTable) (vs ws : List ℕ) → IsShaped c.nodes (length c.order) → p.rows ≡ (layout_of c).rows → length vs ≡ sum_by (claims c.nodes) (below (length c.nodes))
+pub answer_walk : (c : OrderedCircuit) (answer : Bool) (p : PointTable) (vs ws : List ℕ) → IsShaped c.nodes (length c.order)
+    → p.rows ≡ (layout_of c).rows → length vs ≡ sum_by (claims c.nodes) (below (length c.nodes))
     → ws ≡ set vs (sum_by (claims c.nodes) (below (root c.nodes))) (bit answer) → WalksTo c answer [] [] (length c.nodes) p ws
 answer_walk c answer p vs ws s ep long written =
     let nodes = c.nodes in

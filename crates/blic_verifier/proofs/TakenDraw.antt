@@ -1,12 +1,11 @@
 -- What the verifier stands for after a draw.
-use Rattle.std.proofs.Common.{arith, ℕ, suc, ◌≡◌, ◌+◌, ◌*◌, ◌<◌, ◌≤◌, sym, ◌∙◌, ap, subst, ◌⊎◌, inl, List, [], ◌∷◌, ◌++◌, length, get_or, Bool}
+use Rattle.std.proofs.Common.{arith, ℕ, ◌≡◌, ◌+◌, ◌<◌, ◌≤◌, sym, ◌∙◌, ap, subst, ◌⊎◌, inl, [], ◌∷◌, ◌++◌, length, get_or}
 use Rattle.std.specs.Prelude.{sum_by}
 use Rattle.blic_field.specs.Quadratic.{at}
-use Rattle.blic_model.specs.Circuit.{below, free}
+use Rattle.blic_model.specs.Circuit.{below}
 use Rattle.blic_model.specs.Counts.{claims}
 use Rattle.blic_claims.specs.Places.{layout_of}
 use Rattle.blic_claims.specs.Points.{coordinate, Draws}
-use Rattle.blic_claims.specs.Turns.{Reply}
 use Rattle.blic_claims.specs.declared.layout.Row.{Row}
 use Rattle.blic_verifier.specs.Acceptance.{no_poly}
 use Rattle.blic_verifier.specs.Verdict.{Talk, Silent, Talked, with_draw}
@@ -16,7 +15,8 @@ use Rattle.blic_verifier.proofs.Rows.{IsRow, sum_apart}
 use Rattle.blic_verifier.proofs.Passing.{is_place, value_place}
 use Rattle.blic_verifier.proofs.AddedDraw.{draw_step}
 
-pub drawn_stands : (s n : Verifying) (k i r : ℕ) (row : Row) → s.stage ≡ Drawing k i → n.stage ≡ Ready k i → n.circuit ≡ s.circuit → n.answer ≡ s.answer → n.turn ≡ s.turn
+pub drawn_stands : (s n : Verifying) (k i r : ℕ) (row : Row) → s.stage ≡ Drawing k i → n.stage ≡ Ready k i → n.circuit ≡ s.circuit
+    → n.answer ≡ s.answer → n.turn ≡ s.turn
     → s.points.rows ≡ (layout_of s.circuit).rows → IsRow s.circuit k row → n.points.rows ≡ s.points.rows → Draws s.points k i r n.points
     → ((c : ℕ) → c < row.claims → get_or n.values (row.first + c) 0 ≡ at (get_or s.polys c no_poly) r)
     → ((q : ℕ) → (q < row.first) ⊎ (row.first + row.claims ≤ q) → get_or n.values q 0 ≡ get_or s.values q 0)

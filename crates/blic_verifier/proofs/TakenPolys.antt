@@ -1,15 +1,12 @@
 -- What taking polynomials says, and what the verifier then stands for.
-use Rattle.std.proofs.Common.{arith, ℕ, zero, suc, ◌≡◌, ◌+◌, ◌-◌, ◌<◌, ◌≤◌, refl, sym, ◌∙◌, ap, subst, List, [], ◌∷◌, ◌++◌, length, get_or, Bool, true, false}
-use Rattle.std.specs.Prelude.{min, Option, Some, None, sum_by}
+use Rattle.std.proofs.Common.{arith, ℕ, suc, ◌≡◌, ◌+◌, ◌<◌, sym, ◌∙◌, ap, subst, List, [], ◌∷◌, ◌++◌, length, get_or, Bool}
+use Rattle.std.specs.Prelude.{min, Some, None}
 use Rattle.std.proofs.lemmas.List.{length_push}
 use Rattle.blic_field.specs.Quadratic.{Quadratic}
 use Rattle.blic_poly2.specs.Poly.{reduced_at}
-use Rattle.blic_model.specs.declared.node.Node.{Node}
-use Rattle.blic_model.specs.Circuit.{OrderedCircuit, below, free}
-use Rattle.blic_model.specs.Counts.{claims}
 use Rattle.blic_claims.specs.Places.{layout_of}
 use Rattle.blic_claims.specs.Points.{coordinate}
-use Rattle.blic_claims.specs.Turns.{Reply, turns}
+use Rattle.blic_claims.specs.Turns.{Reply}
 use Rattle.blic_claims.specs.Turns.{Polys as PolysReply}
 use Rattle.blic_claims.specs.declared.layout.Row.{Row}
 use Rattle.blic_claims.proofs.Turns.{polys_below}
@@ -33,7 +30,8 @@ pub record IsReadyFor (s : Verifying) (k i : ℕ) (answer : Bool) (draws : List 
   pub same_turn : s.turn ≡ suc (length replies)
   pub ready : IsReady s.circuit.nodes (length s.circuit.order) answer draws replies k i (coordinate s.points) (held_value s)
 
-pub ready_for : (s : Verifying) (k i : ℕ) (answer : Bool) (draws : List ℕ) (replies : List Reply) → s.stage ≡ Ready k i → StandsFor s (Talked answer draws replies) → IsReadyFor s k i answer draws replies
+pub ready_for : (s : Verifying) (k i : ℕ) (answer : Bool) (draws : List ℕ) (replies : List Reply) → s.stage ≡ Ready k i
+    → StandsFor s (Talked answer draws replies) → IsReadyFor s k i answer draws replies
 ready_for s k i answer draws replies es st =
     let w : StandsAt s (Ready k i) answer draws replies = subst (λ z. StandsAt s z answer draws replies) es st in
     record { same_answer = w.0; same_turn = w.1; ready = w.2 }
@@ -44,7 +42,8 @@ not_silent s k i es st = apart (sym es ∙ st.0)
     apart : Ready k i ≡ Fresh → ⊥
     apart e = cc
 
-known : (s : Verifying) (k i : ℕ) (answer : Bool) (draws : List ℕ) (replies : List Reply) → s.stage ≡ Ready k (i + 1) → StandsFor s (Talked answer draws replies) → IsReadyFor s k (suc i) answer draws replies
+known : (s : Verifying) (k i : ℕ) (answer : Bool) (draws : List ℕ) (replies : List Reply) → s.stage ≡ Ready k (i + 1)
+    → StandsFor s (Talked answer draws replies) → IsReadyFor s k (suc i) answer draws replies
 known s k i answer draws replies es st = ready_for s k (suc i) answer draws replies (es ∙ ap (Ready k) (let e : i + 1 ≡ suc i = omega arith in e)) st
 
 pub count_said : (s : Verifying) (k i : ℕ) (row : Row) (ps : List Quadratic) → s.stage ≡ Ready k (i + 1) → IsRow s.circuit k row → (length ps ≡ row.claims → ⊥)
@@ -58,10 +57,12 @@ count_said s k i row ps es own ne (Talked answer draws replies) st =
     ∙ sym (count_says s.circuit.nodes (length s.circuit.order) answer draws replies k i (coordinate s.points) (held_value s) ps w.ready (λ e. ne (e ∙ sym m))))
 
 -- the value of a claim at the place that its row tells
-pub held_at : (s : Verifying) (k c : ℕ) (row : Row) → s.points.rows ≡ (layout_of s.circuit).rows → IsRow s.circuit k row → k < length s.circuit.nodes → get_or s.values (row.first + c) 0 ≡ held_value s k c
+pub held_at : (s : Verifying) (k c : ℕ) (row : Row) → s.points.rows ≡ (layout_of s.circuit).rows → IsRow s.circuit k row → k < length s.circuit.nodes
+    → get_or s.values (row.first + c) 0 ≡ held_value s k c
 held_at s k c row ep own lk = ap (λ z. get_or s.values (z + c) 0) own.first ∙ sym (value_place s.circuit s.points s.values k c ep lk)
 
-pub fault_said : (s : Verifying) (k i d : ℕ) (row : Row) (ps : List Quadratic) → s.stage ≡ Ready k (i + 1) → s.points.rows ≡ (layout_of s.circuit).rows → IsRow s.circuit k row → length ps ≡ row.claims
+pub fault_said : (s : Verifying) (k i d : ℕ) (row : Row) (ps : List Quadratic) → s.stage ≡ Ready k (i + 1)
+    → s.points.rows ≡ (layout_of s.circuit).rows → IsRow s.circuit k row → length ps ≡ row.claims
     → IsFirstDifference row.claims (λ c. reduced_at (get_or ps c no_poly) (coordinate s.points k c i)) (λ c. get_or s.values (row.first + c) 0) (Some d)
     → (t : Talk) → StandsFor s t → Rejected (record { node = k; part = Poly i; claim = d }) ≡ next_after s.circuit.nodes (length s.circuit.order) t (Polys ps)
 fault_said s k i d row ps es ep own e h Silent st = absurd (not_silent s k (i + 1) es st)
@@ -72,7 +73,8 @@ fault_said s k i d row ps es ep own e (ld, before, bad) (Talked answer draws rep
     sym (fault_says s.circuit.nodes (length s.circuit.order) answer draws replies k i d (coordinate s.points) (held_value s) ps w.ready (e ∙ m) (omega arith)
     (λ c l. before c l ∙ held_at s k c row ep own lk) (λ q. bad (q ∙ sym (held_at s k d row ep own lk))))
 
-pub fine_said : (s : Verifying) (k i : ℕ) (row : Row) (ps : List Quadratic) → s.stage ≡ Ready k (i + 1) → s.points.rows ≡ (layout_of s.circuit).rows → IsRow s.circuit k row → length ps ≡ row.claims
+pub fine_said : (s : Verifying) (k i : ℕ) (row : Row) (ps : List Quadratic) → s.stage ≡ Ready k (i + 1) → s.points.rows ≡ (layout_of s.circuit).rows
+    → IsRow s.circuit k row → length ps ≡ row.claims
     → IsFirstDifference row.claims (λ c. reduced_at (get_or ps c no_poly) (coordinate s.points k c i)) (λ c. get_or s.values (row.first + c) 0) None
     → (t : Talk) → StandsFor s t → Draw ≡ next_after s.circuit.nodes (length s.circuit.order) t (Polys ps)
 fine_said s k i row ps es ep own e h Silent st = absurd (not_silent s k (i + 1) es st)
@@ -82,7 +84,8 @@ fine_said s k i row ps es ep own e h (Talked answer draws replies) st =
     sym (fine_says s.circuit.nodes (length s.circuit.order) answer draws replies k i (coordinate s.points) (held_value s) ps w.ready (e ∙ m)
     (λ c l. h c (omega arith) ∙ held_at s k c row ep own w.ready.inside))
 
-pub fine_stands : (s n : Verifying) (k i : ℕ) (row : Row) (ps : List Quadratic) → s.stage ≡ Ready k (i + 1) → n.stage ≡ Drawing k i → n.circuit ≡ s.circuit → n.points ≡ s.points → n.values ≡ s.values → n.answer ≡ s.answer
+pub fine_stands : (s n : Verifying) (k i : ℕ) (row : Row) (ps : List Quadratic) → s.stage ≡ Ready k (i + 1) → n.stage ≡ Drawing k i
+    → n.circuit ≡ s.circuit → n.points ≡ s.points → n.values ≡ s.values → n.answer ≡ s.answer
     → n.turn ≡ min (s.turn + 1) 18446744073709551615 → HasFewTurns s.circuit
     → s.points.rows ≡ (layout_of s.circuit).rows → IsRow s.circuit k row → length ps ≡ row.claims
     → IsFirstDifference row.claims (λ c. reduced_at (get_or ps c no_poly) (coordinate s.points k c i)) (λ c. get_or s.values (row.first + c) 0) None

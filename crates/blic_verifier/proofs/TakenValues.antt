@@ -1,15 +1,14 @@
 -- What taking values says, and what the verifier then stands for.
-use Rattle.std.proofs.Common.{arith, ℕ, zero, suc, ◌≡◌, ◌+◌, ◌-◌, ◌<◌, ◌≤◌, refl, sym, ◌∙◌, ap, subst, List, [], ◌∷◌, ◌++◌, length, get_or, Bool, true, false, eqb}
-use Rattle.std.specs.Prelude.{min, not, Option, Some, None}
+use Rattle.std.proofs.Common.{arith, ℕ, ◌≡◌, ◌+◌, ◌<◌, refl, sym, ◌∙◌, ap, subst, List, [], ◌∷◌, ◌++◌, length, get_or, Bool, true, false, eqb}
+use Rattle.std.specs.Prelude.{min, not, Some, None}
 use Rattle.std.proofs.lemmas.Bool.{eq-eqb, eqb-true}
 use Rattle.std.proofs.lemmas.List.{length_push}
 use Rattle.blic_model.specs.Circuit.{node_at}
-use Rattle.blic_model.specs.Counts.{claims}
 use Rattle.blic_model.specs.Shape.{IsShaped}
 use Rattle.blic_claims.specs.Places.{layout_of}
 use Rattle.blic_claims.specs.Points.{coordinate}
 use Rattle.blic_claims.specs.Claims.{claims_on}
-use Rattle.blic_claims.specs.Turns.{Reply, turns, transcript, values_number}
+use Rattle.blic_claims.specs.Turns.{Reply, transcript}
 use Rattle.blic_claims.specs.Turns.{Values as ValuesReply}
 use Rattle.blic_claims.specs.declared.layout.Row.{Row}
 use Rattle.blic_claims.proofs.Turns.{values_below}
@@ -27,13 +26,15 @@ use Rattle.blic_verifier.specs.declared.stage.Stage.TheVariants.{Ready}
 use Rattle.blic_verifier.proofs.Rows.{IsRow}
 use Rattle.blic_verifier.proofs.Judging.{judged_fault}
 use Rattle.blic_verifier.proofs.ValuesFault.{values_next, ends_fault, combine_fault}
-use Rattle.blic_verifier.proofs.TakenPolys.{IsReadyFor, ready_for, not_silent, held_at}
+use Rattle.blic_verifier.proofs.TakenPolys.{ready_for, not_silent, held_at}
 
 -- what the code compares with is the value of claim 0
-value_is : (s : Verifying) (k value : ℕ) (row : Row) → s.points.rows ≡ (layout_of s.circuit).rows → IsRow s.circuit k row → k < length s.circuit.nodes → value ≡ get_or s.values row.first 0 → value ≡ held_value s k 0
+value_is : (s : Verifying) (k value : ℕ) (row : Row) → s.points.rows ≡ (layout_of s.circuit).rows → IsRow s.circuit k row → k < length s.circuit.nodes
+    → value ≡ get_or s.values row.first 0 → value ≡ held_value s k 0
 value_is s k value row ep own lk e = e ∙ (ap (λ z. get_or s.values z 0) (let q : row.first ≡ row.first + 0 = omega arith in q) ∙ held_at s k 0 row ep own lk)
 
-pub ends_said : (s : Verifying) (k d u w value : ℕ) (row : Row) → s.stage ≡ Ready k 0 → s.points.rows ≡ (layout_of s.circuit).rows → IsRow s.circuit k row → value ≡ get_or s.values row.first 0
+pub ends_said : (s : Verifying) (k d u w value : ℕ) (row : Row) → s.stage ≡ Ready k 0 → s.points.rows ≡ (layout_of s.circuit).rows
+    → IsRow s.circuit k row → value ≡ get_or s.values row.first 0
     → IsFirstDifference row.claims (λ c. get_or s.values (row.first + c) 0) (λ c. value) (Some d)
     → (t : Talk) → StandsFor s t → Rejected (record { node = k; part = Ends; claim = d }) ≡ next_after s.circuit.nodes (length s.circuit.order) t (Values u w)
 ends_said s k d u w value row es ep own ev h Silent st = absurd (not_silent s k 0 es st)
@@ -51,10 +52,12 @@ ends_said s k d u w value row es ep own ev (ld, before, bad) (Talked answer draw
     (λ e l. sym (held_at s k e row ep own lk) ∙ (before e l ∙ zero))
     (λ q. bad (held_at s k d row ep own lk ∙ (q ∙ sym zero)))))
 
-pub combine_said : (s : Verifying) (k u w value : ℕ) (row : Row) → s.stage ≡ Ready k 0 → s.points.rows ≡ (layout_of s.circuit).rows → IsRow s.circuit k row → value ≡ get_or s.values row.first 0
+pub combine_said : (s : Verifying) (k u w value : ℕ) (row : Row) → s.stage ≡ Ready k 0 → s.points.rows ≡ (layout_of s.circuit).rows
+    → IsRow s.circuit k row → value ≡ get_or s.values row.first 0
     → IsShaped s.circuit.nodes (length s.circuit.order)
     → IsFirstDifference row.claims (λ c. get_or s.values (row.first + c) 0) (λ c. value) None → (joined (node_at s.circuit.nodes k) u w ≡ value → ⊥)
-    → (t : Talk) → StandsFor s t → Rejected (record { node = k; part = Combine; claim = 0 }) ≡ next_after s.circuit.nodes (length s.circuit.order) t (Values u w)
+    → (t : Talk) → StandsFor s t
+    → Rejected (record { node = k; part = Combine; claim = 0 }) ≡ next_after s.circuit.nodes (length s.circuit.order) t (Values u w)
 combine_said s k u w value row es ep own ev shaped h bad Silent st = absurd (not_silent s k 0 es st)
 combine_said s k u w value row es ep own ev shaped h bad (Talked answer draws replies) st =
     let nodes = s.circuit.nodes in
@@ -71,11 +74,13 @@ combine_said s k u w value row es ep own ev shaped h bad (Talked answer draws re
     (λ q. bad (sym q ∙ sym zero))))
 
 -- where all ends meet and the values combine, the walk goes on
-pub on_walk : (s n : Verifying) (k u w value : ℕ) (row : Row) → s.stage ≡ Ready k 0 → s.points.rows ≡ (layout_of s.circuit).rows → IsRow s.circuit k row → value ≡ get_or s.values row.first 0
+pub on_walk : (s n : Verifying) (k u w value : ℕ) (row : Row) → s.stage ≡ Ready k 0 → s.points.rows ≡ (layout_of s.circuit).rows
+    → IsRow s.circuit k row → value ≡ get_or s.values row.first 0
     → IsFirstDifference row.claims (λ c. get_or s.values (row.first + c) 0) (λ c. value) None → joined (node_at s.circuit.nodes k) u w ≡ value
     → n.circuit ≡ s.circuit → n.answer ≡ s.answer → n.turn ≡ min (s.turn + 1) 18446744073709551615 → HasFewTurns s.circuit
     → ((answer : Bool) (draws : List ℕ) (replies : List Reply) → HasMet s.circuit answer draws replies k s.points s.values u w → WalksTo s.circuit answer draws (replies ++ ValuesReply u w ∷ []) k n.points n.values)
-    → (answer : Bool) (draws : List ℕ) (replies : List Reply) → StandsFor s (Talked answer draws replies) → IsOnWalk n answer draws (replies ++ ValuesReply u w ∷ []) k
+    → (answer : Bool) (draws : List ℕ) (replies : List Reply) → StandsFor s (Talked answer draws replies)
+    → IsOnWalk n answer draws (replies ++ ValuesReply u w ∷ []) k
 on_walk s n k u w value row es ep own ev h comb ec ea et few walk answer draws replies st =
     let nodes = s.circuit.nodes in
     let levels = length s.circuit.order in

@@ -1,5 +1,5 @@
 -- The replies and the draws above node 0 are all, where node 0 is not binary.
-use Rattle.std.proofs.Common.{arith, ℕ, zero, suc, ◌≡◌, ◌+◌, ◌*◌, ◌<◌, ◌≤◌, refl, sym, ◌∙◌, ap, List, [], ◌∷◌, ◌++◌, length, Bool, true, false, cond}
+use Rattle.std.proofs.Common.{arith, ℕ, zero, suc, ◌≡◌, ◌+◌, ◌*◌, ◌<◌, ◌≤◌, refl, sym, ◌∙◌, ap, List, length, Bool, true, false, cond}
 use Rattle.std.specs.Prelude.{flat_map, reverse, sum_by}
 use mathlib.Core.Path.{fun_ext}
 use Rattle.std.proofs.lemmas.Bool.{cond-false}
@@ -42,7 +42,8 @@ all_turns nodes levels l =
     ∙ (ap (λ z. above (λ j. length (node_turns nodes levels j)) z 0 + length (node_turns nodes levels 0)) (sym m.1)
     ∙ ap (λ f. above f (length nodes) 0 + f 0) (fun_ext (length-node_turns nodes levels))))
 
-pub all_replies : (nodes : List Node) (levels : ℕ) → 0 < length nodes → is_binary (node_at nodes 0) ≡ false → length (turns nodes levels) ≡ replies_above nodes levels 0
+pub all_replies : (nodes : List Node) (levels : ℕ) → 0 < length nodes → is_binary (node_at nodes 0) ≡ false
+    → length (turns nodes levels) ≡ replies_above nodes levels 0
 all_replies nodes levels l b =
     omega (
       arith,

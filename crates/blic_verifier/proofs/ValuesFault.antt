@@ -1,26 +1,24 @@
 -- What is said of a reply of values.
-use Rattle.std.proofs.Common.{arith, ℕ, zero, suc, ◌≡◌, ◌+◌, ◌-◌, ◌<◌, ◌≤◌, refl, sym, ◌∙◌, ap, subst, List, [], ◌∷◌, ◌++◌, length, get_or, drop, Bool, true, false, cond}
-use Rattle.std.specs.Prelude.{map, find, filter, Option, Some, None, not}
-use mathlib.Core.Path.{ap₂}
+use Rattle.std.proofs.Common.{arith, ℕ, suc, ◌≡◌, ◌+◌, ◌<◌, refl, sym, ◌∙◌, ap, subst, List, [], ◌∷◌, ◌++◌, length, get_or, drop, Bool, true, false, cond}
+use Rattle.std.specs.Prelude.{map, find, Some, None, not}
 use Rattle.std.proofs.lemmas.Bool.{eq-eqb, ne_eqb}
 use Rattle.std.proofs.lemmas.List.{length_push}
 use Rattle.std.proofs.lemmas.List.Elements.{All-drop}
 use Rattle.std.proofs.Math.Seq.{drop-cons}
 use Rattle.blic_model.specs.declared.node.Node.{Node}
-use Rattle.blic_model.specs.Circuit.{node_at, below, free}
-use Rattle.blic_model.specs.Counts.{is_binary, claims}
-use Rattle.blic_claims.specs.Claims.{Transcript, claims_on, no_claim}
+use Rattle.blic_model.specs.Circuit.{node_at, below}
+use Rattle.blic_model.specs.Counts.{claims}
+use Rattle.blic_claims.specs.Claims.{claims_on}
 use Rattle.blic_claims.specs.Turns.{Reply, Values, ForValues, turns, transcript, values_number}
 use Rattle.blic_claims.proofs.ClaimCounts.{length-claims_on}
 use Rattle.blic_claims.proofs.Lists.{All-below-lt, length-below, get_or-below}
 use Rattle.blic_claims.proofs.Turns.{values_turn}
-use Rattle.blic_verifier.specs.Acceptance.{Check, value_at, fails, ends_check, combine_check, binary_checks}
+use Rattle.blic_verifier.specs.Acceptance.{Check, fails, ends_check, combine_check, binary_checks}
 use Rattle.blic_verifier.specs.Standing.{IsReady}
 use Rattle.blic_verifier.specs.Verdict.{fault_upto, judged, judged_at, verdict}
-use Rattle.blic_verifier.specs.Walking.{conditions, IsClear}
+use Rattle.blic_verifier.specs.Walking.{conditions}
 use Rattle.blic_verifier.specs.Holding.{joined}
 use Rattle.blic_verifier.proofs.Finding.{find_mapped, find_skip, found}
-use Rattle.blic_verifier.proofs.ShownKept.{is_shown}
 use Rattle.blic_verifier.proofs.Shown.{ends_part}
 use Rattle.blic_verifier.proofs.AddedReply.{agree_reply, sound_kept}
 use Rattle.blic_verifier.proofs.Clear.{fault_here, values_verdict}
@@ -28,7 +26,8 @@ use Rattle.blic_verifier.proofs.ValuesReply.{none_map, end_is}
 use Rattle.blic_verifier.proofs.BinaryWalk.{pair_of, pair_checks, told_values}
 
 -- values stand next at a node whose levels are all drawn
-pub values_next : (nodes : List Node) (levels : ℕ) (answer : Bool) (draws : List ℕ) (replies : List Reply) (k u w : ℕ) (x : ℕ → ℕ → ℕ → ℕ) (v : ℕ → ℕ → ℕ) → IsReady nodes levels answer draws replies k 0 x v
+pub values_next : (nodes : List Node) (levels : ℕ) (answer : Bool) (draws : List ℕ) (replies : List Reply) (k u w : ℕ) (x : ℕ → ℕ → ℕ → ℕ) (v : ℕ → ℕ → ℕ)
+    → IsReady nodes levels answer draws replies k 0 x v
     → verdict nodes levels answer draws replies (Values u w) ≡ judged nodes levels answer draws (replies ++ Values u w ∷ [])
 unfolding verdict
 values_next nodes levels answer draws replies k u w x v R =
@@ -38,7 +37,8 @@ values_next nodes levels answer draws replies k u w x v R =
     (ap (λ z. get_or (turns nodes levels) z (ForValues 0)) n ∙ values_turn nodes levels k R.inside R.binary)
 
 -- the conditions of the node, with the values told
-pub told_checks : (nodes : List Node) (levels : ℕ) (answer : Bool) (draws : List ℕ) (replies : List Reply) (k u w : ℕ) (x : ℕ → ℕ → ℕ → ℕ) (v : ℕ → ℕ → ℕ) → IsReady nodes levels answer draws replies k 0 x v
+pub told_checks : (nodes : List Node) (levels : ℕ) (answer : Bool) (draws : List ℕ) (replies : List Reply) (k u w : ℕ) (x : ℕ → ℕ → ℕ → ℕ) (v : ℕ → ℕ → ℕ)
+    → IsReady nodes levels answer draws replies k 0 x v
     → conditions nodes levels (transcript nodes levels answer draws (replies ++ Values u w ∷ [])) k
     ≡ binary_checks nodes levels (transcript nodes levels answer draws (replies ++ Values u w ∷ [])) k (claims_on nodes levels (transcript nodes levels answer draws (replies ++ Values u w ∷ [])) k) (joined (node_at nodes k) u w)
 told_checks nodes levels answer draws replies k u w x v R =
@@ -48,7 +48,8 @@ told_checks nodes levels answer draws replies k u w x v R =
     ∙ ap (λ z. binary_checks nodes levels S k (claims_on nodes levels S k) (joined (node_at nodes k) z.0 z.1)) (told_values nodes levels answer draws replies k u w (omega arith))
 
 -- what the values show is what their node's ends and combination show
-shown_here : (nodes : List Node) (levels : ℕ) (answer : Bool) (draws : List ℕ) (replies : List Reply) (k u w : ℕ) (x : ℕ → ℕ → ℕ → ℕ) (v : ℕ → ℕ → ℕ) (c : Check) → IsReady nodes levels answer draws replies k 0 x v
+shown_here : (nodes : List Node) (levels : ℕ) (answer : Bool) (draws : List ℕ) (replies : List Reply) (k u w : ℕ) (x : ℕ → ℕ → ℕ → ℕ) (v : ℕ → ℕ → ℕ) (c : Check)
+    → IsReady nodes levels answer draws replies k 0 x v
     → find fails (ends_part nodes levels (transcript nodes levels answer draws (replies ++ Values u w ∷ [])) k (claims_on nodes levels (transcript nodes levels answer draws (replies ++ Values u w ∷ [])) k)
     ++ combine_check nodes levels (transcript nodes levels answer draws (replies ++ Values u w ∷ [])) k (claims_on nodes levels (transcript nodes levels answer draws (replies ++ Values u w ∷ [])) k) (joined (node_at nodes k) u w) ∷ []) ≡ Some c
     → fault_upto nodes levels (transcript nodes levels answer draws (replies ++ Values u w ∷ [])) (suc (length (replies ++ Values u w ∷ []))) ≡ Some c
@@ -69,13 +70,15 @@ from_one : (n : ℕ) → 0 < n → below n ≡ 0 ∷ drop 1 (below n)
 from_one n l = drop-cons (below n) 0 0 (subst (λ z. 0 < z) (sym (length-below n)) l) ∙ ap (λ z. z ∷ drop 1 (below n)) (get_or-below n 0 0 l)
 
 -- the first of a list from 1 on, where 0 has none
-find_from_one : (g : ℕ → Check) (n d : ℕ) → d < n → fails (g 0) ≡ false → ((e : ℕ) → e < d → fails (g e) ≡ false) → fails (g d) ≡ true → find fails (map g (drop 1 (below n))) ≡ Some (g d)
+find_from_one : (g : ℕ → Check) (n d : ℕ) → d < n → fails (g 0) ≡ false → ((e : ℕ) → e < d → fails (g e) ≡ false) → fails (g d) ≡ true
+    → find fails (map g (drop 1 (below n))) ≡ Some (g d)
 find_from_one g n d l none before here =
     sym (ap (λ b. cond b (Some (g 0)) (find fails (map g (drop 1 (below n))))) none)
     ∙ (ap (λ z. find fails (map g z)) (sym (from_one n (omega arith))) ∙ find_mapped fails g n d l before here)
 
 -- the first claim that doesn't end with the value of claim 0
-pub ends_fault : (nodes : List Node) (levels : ℕ) (answer : Bool) (draws : List ℕ) (replies : List Reply) (k u w d : ℕ) (x : ℕ → ℕ → ℕ → ℕ) (v : ℕ → ℕ → ℕ) → IsReady nodes levels answer draws replies k 0 x v
+pub ends_fault : (nodes : List Node) (levels : ℕ) (answer : Bool) (draws : List ℕ) (replies : List Reply) (k u w d : ℕ) (x : ℕ → ℕ → ℕ → ℕ) (v : ℕ → ℕ → ℕ)
+    → IsReady nodes levels answer draws replies k 0 x v
     → d < claims nodes k → ((e : ℕ) → e < d → v k e ≡ v k 0) → (v k d ≡ v k 0 → ⊥)
     → fault_upto nodes levels (transcript nodes levels answer draws (replies ++ Values u w ∷ [])) (suc (length (replies ++ Values u w ∷ [])))
     ≡ Some (ends_check nodes levels (transcript nodes levels answer draws (replies ++ Values u w ∷ [])) k (claims_on nodes levels (transcript nodes levels answer draws (replies ++ Values u w ∷ [])) k) d)
@@ -91,7 +94,8 @@ ends_fault nodes levels answer draws replies k u w d x v R ld before bad =
     (ap not (ne_eqb _ _ (λ q. bad (sym (end d ld) ∙ (q ∙ end 0 (omega arith))))))))
 
 -- the values don't combine to the one value that the claims end with
-pub combine_fault : (nodes : List Node) (levels : ℕ) (answer : Bool) (draws : List ℕ) (replies : List Reply) (k u w : ℕ) (x : ℕ → ℕ → ℕ → ℕ) (v : ℕ → ℕ → ℕ) → IsReady nodes levels answer draws replies k 0 x v
+pub combine_fault : (nodes : List Node) (levels : ℕ) (answer : Bool) (draws : List ℕ) (replies : List Reply) (k u w : ℕ) (x : ℕ → ℕ → ℕ → ℕ) (v : ℕ → ℕ → ℕ)
+    → IsReady nodes levels answer draws replies k 0 x v
     → 0 < claims nodes k → ((c : ℕ) → c < claims nodes k → v k c ≡ v k 0) → (v k 0 ≡ joined (node_at nodes k) u w → ⊥)
     → fault_upto nodes levels (transcript nodes levels answer draws (replies ++ Values u w ∷ [])) (suc (length (replies ++ Values u w ∷ [])))
     ≡ Some (combine_check nodes levels (transcript nodes levels answer draws (replies ++ Values u w ∷ [])) k (claims_on nodes levels (transcript nodes levels answer draws (replies ++ Values u w ∷ [])) k) (joined (node_at nodes k) u w))

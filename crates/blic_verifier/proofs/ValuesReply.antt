@@ -1,9 +1,9 @@
 -- A reply of values.
-use Rattle.std.proofs.Common.{arith, ℕ, zero, suc, ◌≡◌, ◌+◌, ◌-◌, ◌<◌, ◌≤◌, refl, sym, ◌∙◌, ap, subst, inl, inr, List, [], ◌∷◌, ◌++◌, length, get_or, drop, Bool, true, false, cond, eqb}
-use Rattle.std.proofs.lemmas.Bool.{cases_eq, cases_lt, eq-eqb, cond-true}
+use Rattle.std.proofs.Common.{arith, ℕ, suc, ◌≡◌, ◌+◌, ◌<◌, ◌≤◌, refl, sym, ◌∙◌, ap, subst, inl, inr, List, [], ◌∷◌, ◌++◌, length, get_or, drop, Bool, true, false, cond, eqb}
+use Rattle.std.proofs.lemmas.Bool.{cases_lt, eq-eqb, cond-true}
 use Rattle.std.proofs.lemmas.List.{get_or_append_left, length_push}
 use Rattle.std.proofs.lemmas.List.Elements.{All-head, All-tail, All-drop}
-use Rattle.std.specs.Prelude.{map, find, filter, All, Option, Some, None, not}
+use Rattle.std.specs.Prelude.{map, find, filter, All, Some, None, not}
 use Rattle.blic_field.specs.Quadratic.{at}
 use Rattle.blic_model.specs.Circuit.{node_at, below, free, root}
 use Rattle.blic_model.specs.Counts.{is_binary, claims}
@@ -12,9 +12,9 @@ use Rattle.blic_claims.proofs.Agreement.{claims_agree}
 use Rattle.blic_claims.proofs.ClaimCounts.{length-claims_on}
 use Rattle.blic_claims.proofs.Turns.{values_below, values_turn}
 use Rattle.blic_claims.proofs.Lists.{All-below-lt}
-use Rattle.blic_claims.specs.Claims.{Transcript, Claim, claims_on, no_claim}
+use Rattle.blic_claims.specs.Claims.{Claim, claims_on, no_claim}
 use Rattle.blic_claims.specs.Turns.{sum_above, draw_number, polys_number, values_number, Reply, Values, ForValues, turns, transcript, polys_of, no_reply, replies_above}
-use Rattle.blic_verifier.proofs.AddedReply.{agree_reply, agree_above, held_kept, sound_kept}
+use Rattle.blic_verifier.proofs.AddedReply.{agree_reply, agree_above, sound_kept}
 use Rattle.blic_verifier.proofs.Stopping.{start_next}
 use Rattle.blic_verifier.proofs.Fitting.{fits_more}
 use Rattle.blic_verifier.proofs.Finding.{find_skip}
@@ -22,7 +22,7 @@ use Rattle.blic_verifier.proofs.Shown.{ends_part}
 use Rattle.blic_verifier.proofs.ShownKept.{is_shown}
 use Rattle.blic_verifier.proofs.Clear.{clear_more, values_verdict}
 use Rattle.blic_verifier.specs.Acceptance.{Check, no_poly, sent, value_at, ends_check, combine_check, binary_checks, fails}
-use Rattle.blic_verifier.specs.Standing.{AreHeld, HasPoints, HasValues, IsReady}
+use Rattle.blic_verifier.specs.Standing.{AreHeld, IsReady}
 use Rattle.blic_verifier.specs.Verdict.{fault_upto}
 use Rattle.blic_verifier.specs.Walking.{conditions, IsClear, IsWalking}
 
@@ -30,7 +30,8 @@ pub none_map : (f : Check → Bool) (g : ℕ → Check) (n : ℕ) (xs : List ℕ
 none_map f g n [] a h = refl
 none_map f g n (x ∷ xs) a h = ap (λ b. cond b (Some (g x)) (find f (map g xs))) (h x (All-head (λ j. j < n) x xs a)) ∙ none_map f g n xs (All-tail (λ j. j < n) x xs a) h
 
-value_at_reply : (nodes : List Node) (levels : ℕ) (answer : Bool) (draws : List ℕ) (replies : List Reply) (r : Reply) (k c i : ℕ) (cl : Claim) → i ≤ length (free nodes levels k) → (i < length (free nodes levels k) → polys_number nodes levels k i < length replies)
+value_at_reply : (nodes : List Node) (levels : ℕ) (answer : Bool) (draws : List ℕ) (replies : List Reply) (r : Reply) (k c i : ℕ) (cl : Claim)
+    → i ≤ length (free nodes levels k) → (i < length (free nodes levels k) → polys_number nodes levels k i < length replies)
     → value_at nodes levels (transcript nodes levels answer draws replies) k c cl i ≡ value_at nodes levels (transcript nodes levels answer draws (replies ++ r ∷ [])) k c cl i
 unfolding transcript
 value_at_reply nodes levels answer draws replies r k c i cl li h = elim (cases_lt i (length (free nodes levels k))) [
@@ -43,14 +44,16 @@ value_at_reply nodes levels answer draws replies r k c i cl li h = elim (cases_l
       ∙ sym (cond-true _ cl.value (at (sent (transcript nodes levels answer draws (replies ++ r ∷ [])) k i c) (get_or draws (draw_number nodes levels k i) 0)) b)
 ]
 
-claims_reply : (nodes : List Node) (levels : ℕ) (answer : Bool) (draws : List ℕ) (replies : List Reply) (r : Reply) (k : ℕ) → k ≤ root nodes → replies_above nodes levels k ≤ length replies
+claims_reply : (nodes : List Node) (levels : ℕ) (answer : Bool) (draws : List ℕ) (replies : List Reply) (r : Reply) (k : ℕ) → k ≤ root nodes
+    → replies_above nodes levels k ≤ length replies
     → claims_on nodes levels (transcript nodes levels answer draws replies) k ≡ claims_on nodes levels (transcript nodes levels answer draws (replies ++ r ∷ [])) k
 unfolding transcript
 claims_reply nodes levels answer draws replies r k l s =
     claims_agree nodes levels (transcript nodes levels answer draws replies) (transcript nodes levels answer draws (replies ++ r ∷ [])) refl k (agree_above nodes levels answer draws replies r k s) l
 
 -- the value that a claim ends with, as it is stored
-pub end_is : (nodes : List Node) (levels : ℕ) (answer : Bool) (draws : List ℕ) (replies : List Reply) (r : Reply) (k c : ℕ) (x : ℕ → ℕ → ℕ → ℕ) (v : ℕ → ℕ → ℕ) → IsReady nodes levels answer draws replies k 0 x v → c < claims nodes k
+pub end_is : (nodes : List Node) (levels : ℕ) (answer : Bool) (draws : List ℕ) (replies : List Reply) (r : Reply) (k c : ℕ) (x : ℕ → ℕ → ℕ → ℕ) (v : ℕ → ℕ → ℕ)
+    → IsReady nodes levels answer draws replies k 0 x v → c < claims nodes k
     → value_at nodes levels (transcript nodes levels answer draws (replies ++ r ∷ [])) k c (get_or (claims_on nodes levels (transcript nodes levels answer draws (replies ++ r ∷ [])) k) c no_claim) 0 ≡ v k c
 end_is nodes levels answer draws replies r k c x v R lc =
     let T = transcript nodes levels answer draws replies in
@@ -61,7 +64,8 @@ end_is nodes levels answer draws replies r k c x v R lc =
     ∙ (sym (value_at_reply nodes levels answer draws replies r k c 0 (get_or (claims_on nodes levels T k) c no_claim) (omega arith) (λ q. omega arith)) ∙ sym (R.values c lc))
 
 -- Where all ends meet and the values combine, the node is taken.
-pub values_fine : (nodes : List Node) (levels : ℕ) (answer : Bool) (draws : List ℕ) (replies : List Reply) (p q k both : ℕ) (x y : ℕ → ℕ → ℕ → ℕ) (v u : ℕ → ℕ → ℕ) → IsReady nodes levels answer draws replies k 0 x v → 0 < k → 0 < claims nodes k
+pub values_fine : (nodes : List Node) (levels : ℕ) (answer : Bool) (draws : List ℕ) (replies : List Reply) (p q k both : ℕ) (x y : ℕ → ℕ → ℕ → ℕ) (v u : ℕ → ℕ → ℕ)
+    → IsReady nodes levels answer draws replies k 0 x v → 0 < k → 0 < claims nodes k
     → conditions nodes levels (transcript nodes levels answer draws (replies ++ Values p q ∷ [])) k ≡ binary_checks nodes levels (transcript nodes levels answer draws (replies ++ Values p q ∷ [])) k (claims_on nodes levels (transcript nodes levels answer draws (replies ++ Values p q ∷ [])) k) both
     → ((c : ℕ) → c < claims nodes k → v k c ≡ v k 0) → v k 0 ≡ both
     → AreHeld nodes levels (transcript nodes levels answer draws (replies ++ Values p q ∷ [])) k k y u

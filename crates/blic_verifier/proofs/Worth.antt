@@ -1,7 +1,6 @@
 -- What an accepted talk is worth.
-use Rattle.std.proofs.Common.{◌≡◌, ◌∙◌, ap, subst, sym, length, Bool, List, ℕ}
+use Rattle.std.proofs.Common.{subst, sym, length, Bool, List, ℕ}
 use Rattle.blic_model.specs.Circuit.{OrderedCircuit}
-use Rattle.blic_model.specs.Building.{circuit_of}
 use Rattle.blic_model.specs.Shape.{IsShaped}
 use Rattle.blic_claims.specs.Turns.{Reply, transcript}
 use Rattle.blic_verifier.specs.Acceptance.{Passes}

@@ -1,8 +1,7 @@
 -- What is said of a reply of another kind than the one that stands next.
-use Rattle.std.proofs.Common.{arith, ℕ, suc, ◌≡◌, ◌+◌, ◌-◌, ◌<◌, ◌≤◌, refl, sym, ◌∙◌, ap, List, [], ◌∷◌, ◌++◌, length, get_or, Bool, Bor}
+use Rattle.std.proofs.Common.{arith, ℕ, suc, ◌≡◌, refl, sym, ◌∙◌, ap, List, [], ◌∷◌, ◌++◌, length, get_or, Bool, Bor}
 use Rattle.blic_field.specs.Quadratic.{Quadratic}
 use Rattle.blic_model.specs.declared.node.Node.{Node}
-use Rattle.blic_model.specs.Circuit.{free}
 use Rattle.blic_claims.specs.Points.{coordinate}
 use Rattle.blic_claims.specs.Turns.{Reply, ForPolys, ForValues, turns, polys_number, values_number}
 use Rattle.blic_claims.specs.Turns.{Polys as PolysReply, Values as ValuesReply}
@@ -15,10 +14,12 @@ use Rattle.blic_verifier.specs.Standing.{Verifying, held_value, StandsFor, IsRea
 use Rattle.blic_verifier.specs.declared.next.Next.TheVariants.{WrongKind}
 use Rattle.blic_verifier.specs.declared.stage.Stage.TheVariants.{Ready}
 use Rattle.blic_verifier.proofs.PolysReply.{reply_place}
-use Rattle.blic_verifier.proofs.TakenPolys.{IsReadyFor, ready_for, not_silent}
+use Rattle.blic_verifier.proofs.TakenPolys.{ready_for, not_silent}
 
-polys_at_values : (nodes : List Node) (levels : ℕ) (answer : Bool) (draws : List ℕ) (replies : List Reply) (k : ℕ) (x : ℕ → ℕ → ℕ → ℕ) (v : ℕ → ℕ → ℕ) (r : Reply) → IsReady nodes levels answer draws replies k 0 x v
-    → judged_at nodes (suc (length replies)) (ForValues k) r (judged nodes levels answer draws (replies ++ r ∷ [])) ≡ WrongKind (suc (length replies)) → verdict nodes levels answer draws replies r ≡ WrongKind (suc (length replies))
+polys_at_values : (nodes : List Node) (levels : ℕ) (answer : Bool) (draws : List ℕ) (replies : List Reply) (k : ℕ) (x : ℕ → ℕ → ℕ → ℕ) (v : ℕ → ℕ → ℕ) (r : Reply)
+    → IsReady nodes levels answer draws replies k 0 x v
+    → judged_at nodes (suc (length replies)) (ForValues k) r (judged nodes levels answer draws (replies ++ r ∷ [])) ≡ WrongKind (suc (length replies))
+    → verdict nodes levels answer draws replies r ≡ WrongKind (suc (length replies))
 unfolding verdict
 polys_at_values nodes levels answer draws replies k x v r R e =
     let rc = R.reply_count in
@@ -26,8 +27,10 @@ polys_at_values nodes levels answer draws replies k x v r R e =
     ap (λ t. judged_at nodes (suc (length replies)) t r (judged nodes levels answer draws (replies ++ r ∷ [])))
     (ap (λ z. get_or (turns nodes levels) z (ForValues 0)) n ∙ values_turn nodes levels k R.inside R.binary) ∙ e
 
-values_at_polys : (nodes : List Node) (levels : ℕ) (answer : Bool) (draws : List ℕ) (replies : List Reply) (k i : ℕ) (x : ℕ → ℕ → ℕ → ℕ) (v : ℕ → ℕ → ℕ) (r : Reply) → IsReady nodes levels answer draws replies k (suc i) x v
-    → judged_at nodes (suc (length replies)) (ForPolys k i) r (judged nodes levels answer draws (replies ++ r ∷ [])) ≡ WrongKind (suc (length replies)) → verdict nodes levels answer draws replies r ≡ WrongKind (suc (length replies))
+values_at_polys : (nodes : List Node) (levels : ℕ) (answer : Bool) (draws : List ℕ) (replies : List Reply) (k i : ℕ) (x : ℕ → ℕ → ℕ → ℕ) (v : ℕ → ℕ → ℕ) (r : Reply)
+    → IsReady nodes levels answer draws replies k (suc i) x v
+    → judged_at nodes (suc (length replies)) (ForPolys k i) r (judged nodes levels answer draws (replies ++ r ∷ [])) ≡ WrongKind (suc (length replies))
+    → verdict nodes levels answer draws replies r ≡ WrongKind (suc (length replies))
 unfolding verdict
 values_at_polys nodes levels answer draws replies k i x v r R e =
     let li = R.left in
@@ -35,7 +38,8 @@ values_at_polys nodes levels answer draws replies k i x v r R e =
     ap (λ t. judged_at nodes (suc (length replies)) t r (judged nodes levels answer draws (replies ++ r ∷ [])))
     (ap (λ z. get_or (turns nodes levels) z (ForValues 0)) n ∙ polys_turn nodes levels k i R.inside R.binary (omega arith)) ∙ e
 
-pub no_values : (s : Verifying) (k : ℕ) (r : Told) → s.stage ≡ Ready k 0 → ((u w : ℕ) → r ≡ Values u w → ⊥) → (t : Talk) → StandsFor s t → WrongKind s.turn ≡ next_after s.circuit.nodes (length s.circuit.order) t (said r)
+pub no_values : (s : Verifying) (k : ℕ) (r : Told) → s.stage ≡ Ready k 0 → ((u w : ℕ) → r ≡ Values u w → ⊥) → (t : Talk) → StandsFor s t
+    → WrongKind s.turn ≡ next_after s.circuit.nodes (length s.circuit.order) t (said r)
 no_values s k r es ne Silent st = absurd (not_silent s k 0 es st)
 no_values s k (Answer b) es ne (Talked answer draws replies) st = ap WrongKind (ready_for s k 0 answer draws replies es st).same_turn
 no_values s k (Refused why) es ne (Talked answer draws replies) st = ap WrongKind (ready_for s k 0 answer draws replies es st).same_turn
@@ -44,7 +48,8 @@ no_values s k (Polys ps) es ne (Talked answer draws replies) st =
     let w = ready_for s k 0 answer draws replies es st in
     ap WrongKind w.same_turn ∙ sym (polys_at_values s.circuit.nodes (length s.circuit.order) answer draws replies k (coordinate s.points) (held_value s) (PolysReply ps.now) w.ready refl)
 
-pub no_polys : (s : Verifying) (k i : ℕ) (r : Told) → s.stage ≡ Ready k (suc i) → ((ps : Bor (List Quadratic)) → r ≡ Polys ps → ⊥) → (t : Talk) → StandsFor s t → WrongKind s.turn ≡ next_after s.circuit.nodes (length s.circuit.order) t (said r)
+pub no_polys : (s : Verifying) (k i : ℕ) (r : Told) → s.stage ≡ Ready k (suc i) → ((ps : Bor (List Quadratic)) → r ≡ Polys ps → ⊥) → (t : Talk)
+    → StandsFor s t → WrongKind s.turn ≡ next_after s.circuit.nodes (length s.circuit.order) t (said r)
 no_polys s k i r es ne Silent st = absurd (not_silent s k (suc i) es st)
 no_polys s k i (Answer b) es ne (Talked answer draws replies) st = ap WrongKind (ready_for s k (suc i) answer draws replies es st).same_turn
 no_polys s k i (Refused why) es ne (Talked answer draws replies) st = ap WrongKind (ready_for s k (suc i) answer draws replies es st).same_turn

@@ -9,7 +9,7 @@ use Rattle.blic_model.specs.Building.{circuit_of}
 use Rattle.blic_model.specs.Value.{bit, value}
 use Rattle.blic_model.specs.Counts.{claims, bad}
 use Rattle.blic_claims.specs.Claims.{Transcript, zero_point}
-use Rattle.blic_claims.specs.Turns.{Turn, Reply, turns, transcript}
+use Rattle.blic_claims.specs.Turns.{Turn, turns, transcript}
 use Rattle.blic_verifier.specs.Soundness.{IsBad, SomeDrawIsBad}
 use Rattle.blic_verifier.specs.SoundnessLaws.{AreElements, AreBadAt}
 use Rattle.blic_verifier.specs.Verdict.{Talk, Silent, Talked}

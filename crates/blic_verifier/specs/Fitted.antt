@@ -6,7 +6,7 @@ use Rattle.blic_claims.specs.Places.{Places, layout_of}
 use Rattle.blic_claims.specs.Points.{PointTable}
 use Rattle.blic_claims.specs.Turns.{Reply, turns}
 use Rattle.blic_verifier.specs.Verdict.{is_verdict}
-use Rattle.blic_verifier.specs.Standing.{Verifying, StandsAt, is_over, wants_draw}
+use Rattle.blic_verifier.specs.Standing.{Verifying, is_over, wants_draw}
 use Rattle.blic_verifier.specs.Holding.{HasRoom, WalksTo}
 use Rattle.blic_verifier.specs.declared.next.Next.{Next}
 use Rattle.blic_verifier.specs.declared.next.Next.TheVariants.{Draw}

@@ -1,6 +1,5 @@
 -- The claims that a verifier holds, as its private contracts speak of them.
-use Rattle.std.specs.Prelude.{ℕ, suc, ◌+◌, ◌*◌, ◌≡◌, ◌<◌, ◌≤◌, ◌⊎◌, Bool, true, List, slice_index_or, length, sum_by, Option, Some, None}
-use Rattle.blic_field.specs.Quadratic.{Quadratic}
+use Rattle.std.specs.Prelude.{ℕ, suc, ◌+◌, ◌≡◌, ◌<◌, Bool, true, List, slice_index_or, length, sum_by, Option, Some, None}
 use Rattle.blic_field.specs.Field.{mul, or}
 use Rattle.blic_model.specs.declared.node.Node.{Node}
 use Rattle.blic_model.specs.declared.node.Node.TheVariants.{And, Or}
@@ -12,13 +11,12 @@ use Rattle.blic_claims.specs.Turns.{Reply}
 use Rattle.blic_verifier.specs.Standing.{IsReady}
 use Rattle.blic_verifier.specs.Verdict.{judged}
 use Rattle.blic_verifier.specs.Walking.{IsWalking}
-use Rattle.blic_verifier.specs.declared.place.Place.{Place}
 use Rattle.blic_verifier.specs.declared.place.Part.TheVariants.{Leaf}
 use Rattle.blic_verifier.specs.declared.next.Next.TheVariants.{Rejected}
-use Rattle.blic_verifier.specs.declared.held.Taken.{Taken}
-use Rattle.blic_verifier.specs.declared.held.Taken.TheVariants.{Binary as IsBinary, Fault as HasFault, Done as IsDone}
-use Rattle.blic_verifier.specs.declared.held.Walked.{Walked}
-use Rattle.blic_verifier.specs.declared.held.Walked.TheVariants.{Binary as AtBinary, Fault as AtFault, End as AtEnd}
+use Rattle.blic_verifier.specs.declared.walk.Taken.{Taken}
+use Rattle.blic_verifier.specs.declared.walk.Taken.TheVariants.{Binary as IsBinary, Fault as HasFault, Done as IsDone}
+use Rattle.blic_verifier.specs.declared.walk.Walked.{Walked}
+use Rattle.blic_verifier.specs.declared.walk.Walked.TheVariants.{Binary as AtBinary, Fault as AtFault, End as AtEnd}
 
 -- the first number below n at which f and g differ, if there is one
 abbrev pub IsFirstDifference : ℕ → (ℕ → ℕ) → (ℕ → ℕ) → Option ℕ → Type 0

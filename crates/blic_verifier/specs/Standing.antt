@@ -1,5 +1,5 @@
 -- What a verifier holds, and for which conversations it stands.
-use Rattle.std.specs.Prelude.{ℕ, suc, ◌+◌, ◌*◌, ◌-◌, ◌≡◌, ◌<◌, ◌≤◌, Bool, true, false, cond, ◌==◌, List, [], ◌∷◌, ◌++◌, slice_index_or, length, None}
+use Rattle.std.specs.Prelude.{ℕ, suc, ◌+◌, ◌-◌, ◌≡◌, ◌<◌, ◌≤◌, Bool, true, false, cond, ◌==◌, List, slice_index_or, length, None}
 use Rattle.blic_field.specs.Quadratic.{Quadratic}
 use Rattle.blic_model.specs.declared.node.Node.{Node}
 use Rattle.blic_model.specs.Circuit.{OrderedCircuit, node_at, root, free}

@@ -1,5 +1,5 @@
 -- What is said of the next reply of a conversation.
-use Rattle.std.specs.Prelude.{ℕ, ◌≡◌, zero, suc, ◌+◌, Bool, true, false, cond, ◌==◌, nat_lt, List, [], ◌∷◌, ◌++◌, slice_index_or, length, min, filter, find, Option, Some, None}
+use Rattle.std.specs.Prelude.{ℕ, ◌≡◌, zero, suc, Bool, true, false, cond, ◌==◌, nat_lt, List, [], ◌∷◌, ◌++◌, slice_index_or, length, min, filter, find, Option, Some, None}
 use Rattle.blic_model.specs.declared.node.Node.{Node}
 use Rattle.blic_model.specs.Counts.{claims}
 use Rattle.blic_messages.specs.Replies.{Said, Answer, Polys, Values, Refused}

@@ -1,14 +1,17 @@
 //! A verifier whose verdict is acceptance of the whole conversation.
 #![tactic(auto)]
 
+mod binary;
 mod held;
 mod honest;
+mod kept;
 mod laws;
 mod next;
 mod place;
 mod soundness;
 mod stage;
 mod verifier;
+mod walk;
 
 pub use honest::acceptance_law;
 pub use laws::verdict_law;

@@ -1,25 +1,25 @@
 // A verifier: it takes one reply at a time and keeps the claims.
-ghost use Rattle.std.specs.Prelude.{◌≡◌, ◌<◌, ◌≤◌, ◌+◌, ◌*◌, ◌↔◌, ℕ, Bool, List, [], true, false, length, IfOk, IsTrue, slice_index_or};
-ghost use Rattle.blic_model.specs.Counts.{is_binary as is_binary_node};
+ghost use Rattle.std.specs.Prelude.{◌≡◌, ◌≤◌, ◌+◌, ◌*◌, ◌↔◌, ℕ, Bool, List, [], true, false, length, IfOk, IsTrue};
 ghost use Rattle.blic_claims.specs.Places.{layout_of};
 ghost use Rattle.blic_claims.specs.Turns.{Reply as ReplyOf};
 ghost use Rattle.blic_messages.specs.Replies.{said, polynomials_in, Polys, Values};
-ghost use Rattle.blic_verifier.specs.Acceptance.{no_poly};
 ghost use Rattle.blic_verifier.specs.Accepting.{IsWorth};
 ghost use Rattle.blic_verifier.specs.Verdict.{Talk, Silent, Talked, judged, next_after, with_reply, with_draw, is_in_turn, is_verdict, IsAcceptedAs};
 ghost use Rattle.blic_verifier.specs.Standing.{StandsAt, StandsFor, is_over, wants_draw as wants_draw_at, claims_waiting};
-ghost use Rattle.blic_verifier.specs.Holding.{joined};
-ghost use Rattle.blic_verifier.specs.Fitted.{Agrees, HasMostClaims, IsOnWalk};
+ghost use Rattle.blic_verifier.specs.Fitted.{Agrees, IsOnWalk};
 
-use crate::held::{Held, Walked};
+use crate::binary::combined;
+use crate::held::Held;
+use crate::kept::{keep, most_claims};
 use crate::next::Next;
 use crate::place::{Part, Place};
 use crate::stage::Stage;
+use crate::walk::Walked;
 use blic_basic::{NoMem, Steps};
 use blic_claims::Layout;
 use blic_field::Fe;
 use blic_messages::Reply;
-use blic_model::{Circuit, Node};
+use blic_model::Circuit;
 use blic_poly2::Poly2;
 use std::alloc::Global;
 use std::marker::Model;
@@ -315,49 +315,5 @@ impl<'c> Verifier<'c> {
             want,
             got,
         }
-    }
-}
-
-// The greatest number of claims on a binary node.
-fn most_claims(circuit: &Circuit, layout: &Layout) -> u32
-    requires { layout.now ≡ layout_of circuit.now }
-    ensures { HasMostClaims circuit.now result }
-{
-    let mut most = 0;
-    for node in 0..circuit.nodes() {
-        if is_binary(circuit.node(node)) {
-            most = most.max(layout.claims(node));
-        }
-    }
-    most
-}
-
-fn is_binary(node: Node) -> bool
-    ensures { result ≡ is_binary_node node }
-{
-    matches!(node, Node::And(..) | Node::Or(..))
-}
-
-// What the operands' values give a binary node.
-#[tactic(auto, unfolding(blic_field::specs::Field::or))]
-fn combined<L: Ledger>(node: Node, u: Fe, w: Fe, steps: &mut Steps<L>) -> Fe
-    requires { is_binary_node node ≡ true }
-    ensures value { result ≡ joined node u w }
-    ensures count { steps.new ≡ steps.old + 1 }
-{
-    let product = u.mul(w, steps);
-    match node {
-        Node::Or(..) => u.add(w).sub(product),
-        _ => product,
-    }
-}
-
-// Keeps the polynomials for the draw.
-fn keep(kept: &mut [Poly2], polys: &[Poly2])
-    requires { length polys.now ≤ length kept.old }
-    ensures { (c : ℕ) → c < length polys.now → slice_index_or kept.new c no_poly ≡ slice_index_or polys.now c no_poly }
-{
-    for (c, poly) in polys.iter().enumerate() {
-        kept[c] = *poly;
     }
 }

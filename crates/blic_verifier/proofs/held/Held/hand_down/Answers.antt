@@ -1,8 +1,7 @@
-use Rattle.std.proofs.Common.{arith, ◌≡◌, ◌+◌, ◌<◌, ◌∙◌, ap, subst, sym, length, set}
+use Rattle.std.proofs.Common.{arith, ◌+◌, ◌∙◌, ap, subst, sym, length, set}
 use mathlib.Core.Path.{ap₂}
-use Rattle.blic_model.specs.Counts.{is_binary}
 use Rattle.blic_model.specs.Circuit.{node_at}
-use Rattle.blic_verifier.specs.Holding.{operands_of, HasMet, WalksTo}
+use Rattle.blic_verifier.specs.Holding.{operands_of}
 use Rattle.blic_verifier.proofs.Places.{rows_of_layout, handed_of_layout}
 use Rattle.blic_verifier.proofs.BinaryWalk.{IsPair, pair_of, pair_below, binary_walk}
 use Rattle.blic_verifier.proofs.PairPlaces.{left_place, right_place}

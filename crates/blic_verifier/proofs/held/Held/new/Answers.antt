@@ -1,4 +1,4 @@
-use Rattle.std.proofs.Common.{arith, suc, ◌≡◌, ◌+◌, ◌∙◌, ap, length}
+use Rattle.std.proofs.Common.{arith, suc, ◌≡◌, ◌∙◌, ap, length}
 use Rattle.std.specs.Prelude.{sum_by}
 use Rattle.blic_model.specs.Circuit.{root, below}
 use Rattle.blic_model.specs.Counts.{claims}

@@ -1,4 +1,4 @@
-use Rattle.std.proofs.Common.{arith, ◌+◌, ◌≡◌, subst, sym, length, get_or}
+use Rattle.std.proofs.Common.{arith, ◌+◌, subst, sym, length, get_or}
 use Rattle.std.specs.Prelude.{sum_by}
 use Rattle.blic_model.specs.Circuit.{below}
 use Rattle.blic_model.specs.Counts.{claims}

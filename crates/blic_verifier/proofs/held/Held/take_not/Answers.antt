@@ -1,4 +1,4 @@
-use Rattle.std.proofs.Common.{arith, ℕ, suc, ◌≡◌, ◌+◌, ◌<◌, ◌≤◌, ◌∙◌, refl, ap, subst, sym, List, length, get_or}
+use Rattle.std.proofs.Common.{arith, suc, ◌≡◌, ◌+◌, ◌∙◌, refl, ap, subst, sym, length}
 use Rattle.std.specs.Vec.{with_items}
 use mathlib.Core.Path.{ap₂}
 use Rattle.std.proofs.lemmas.List.{with_items_is}

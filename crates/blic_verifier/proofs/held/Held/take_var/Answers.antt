@@ -1,8 +1,8 @@
-use Rattle.std.proofs.Common.{arith, ◌+◌, ◌≡◌, ◌∙◌, ap, subst, sym, length, get_or}
+use Rattle.std.proofs.Common.{arith, ◌+◌, ◌∙◌, ap, subst, sym, length, get_or}
 use Rattle.std.specs.Prelude.{sum_by}
-use Rattle.blic_model.specs.Circuit.{below, free}
+use Rattle.blic_model.specs.Circuit.{below}
 use Rattle.blic_model.specs.Counts.{claims}
-use Rattle.blic_claims.specs.Places.{layout_of, row_at}
+use Rattle.blic_claims.specs.Places.{row_at}
 use Rattle.blic_claims.specs.Points.{coordinate}
 use Rattle.blic_verifier.specs.Holding.{IsFirstDifference, IsTakenAs}
 use Rattle.blic_verifier.proofs.Places.{rows_of_layout, row_of_layout, row_within}

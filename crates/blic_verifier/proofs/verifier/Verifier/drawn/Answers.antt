@@ -1,4 +1,4 @@
-use Rattle.std.proofs.Common.{arith, ℕ, ◌≡◌, ◌∙◌, ◌+◌, ◌*◌, ◌<◌, ◌≤◌, refl, ap, subst, sym, length}
+use Rattle.std.proofs.Common.{arith, ◌≡◌, ◌∙◌, refl, ap, subst, sym, length}
 use Rattle.blic_claims.specs.Places.{row_at}
 use Rattle.blic_verifier.specs.Verdict.{Talk, with_draw}
 use Rattle.blic_verifier.specs.Standing.{Verifying, StandsFor, claims_waiting}

@@ -1,9 +1,6 @@
-use Rattle.std.proofs.Common.{arith, ℕ, suc, ◌≡◌, ◌∙◌, refl, ap, subst, sym, Bool, List, length}
-use Rattle.blic_model.specs.Circuit.{free}
+use Rattle.std.proofs.Common.{arith, suc, ◌≡◌, ◌∙◌, ap, subst, sym, length}
 use Rattle.blic_claims.specs.Points.{coordinate}
-use Rattle.blic_claims.specs.Turns.{Reply as ReplyOf}
 use Rattle.blic_verifier.specs.declared.next.Next.TheVariants.{Go, Done}
-use Rattle.blic_verifier.specs.Acceptance.{Passes}
 use Rattle.blic_verifier.specs.Verdict.{Talked, judged, IsAcceptedAs}
 use Rattle.blic_verifier.specs.Standing.{Verifying, IsReady}
 use Rattle.blic_verifier.specs.Holding.{value_in, WalksTo}

@@ -1,4 +1,4 @@
-use Rattle.std.proofs.Common.{arith, ℕ, suc, ◌≡◌, ◌∙◌, ◌-◌, refl, ap, subst, sym, length}
+use Rattle.std.proofs.Common.{arith, suc, ◌≡◌, ◌∙◌, ◌-◌, ap, subst, length}
 use Rattle.blic_messages.specs.Replies.{said}
 use Rattle.blic_verifier.specs.Verdict.{Talk, next_after}
 use Rattle.blic_verifier.specs.Standing.{Verifying, StandsFor}

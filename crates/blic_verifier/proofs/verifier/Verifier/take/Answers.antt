@@ -1,4 +1,3 @@
-use Rattle.std.proofs.Common.{◌≡◌}
 use Rattle.blic_messages.specs.Replies.{said}
 use Rattle.blic_verifier.specs.Verdict.{with_reply}
 use Rattle.blic_verifier.proofs.Worth.{worth}

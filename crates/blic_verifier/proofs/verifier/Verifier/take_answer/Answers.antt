@@ -1,14 +1,12 @@
-use Rattle.std.proofs.Common.{arith, ℕ, suc, ◌≡◌, ◌∙◌, ◌+◌, ◌<◌, ◌≤◌, refl, ap, subst, sym, List, [], Bool, length, set}
+use Rattle.std.proofs.Common.{arith, ◌≡◌, ◌∙◌, ◌+◌, refl, ap, subst, [], Bool, length, set}
 use mathlib.Core.Path.{ap₂}
 use Rattle.std.specs.Prelude.{sum_by}
 use Rattle.blic_model.specs.Circuit.{root, below}
 use Rattle.blic_model.specs.Counts.{claims}
-use Rattle.blic_model.specs.Value.{bit}
 use Rattle.blic_model.proofs.Shaped.{size_of}
-use Rattle.blic_verifier.specs.declared.next.Next.{Next}
 use Rattle.blic_verifier.specs.declared.next.Next.TheVariants.{Done}
 use Rattle.blic_verifier.specs.Verdict.{Talked, judged, IsAcceptedAs}
-use Rattle.blic_verifier.specs.Standing.{Verifying, StandsAt}
+use Rattle.blic_verifier.specs.Standing.{Verifying}
 use Rattle.blic_verifier.specs.Holding.{WalksTo}
 use Rattle.blic_verifier.specs.Fitted.{IsOnWalk}
 use Rattle.blic_verifier.proofs.Places.{rows_of_layout, row_of_layout}

@@ -1,15 +1,11 @@
-use Rattle.std.proofs.Common.{arith, ℕ, ◌≡◌, ◌∙◌, ◌+◌, ◌<◌, ◌≤◌, refl, ap, subst, sym, length, get_or}
-use Rattle.std.specs.Prelude.{Some, None}
+use Rattle.std.proofs.Common.{arith, ◌≡◌, ◌∙◌, ◌+◌, refl, ap, subst, sym, length, get_or}
 use Rattle.std.specs.Vec.{with_items}
 use Rattle.std.proofs.lemmas.List.{with_items_is}
-use Rattle.blic_poly2.specs.Poly.{reduced_at}
 use Rattle.blic_claims.specs.Places.{row_at}
-use Rattle.blic_claims.specs.Points.{coordinate}
 use Rattle.blic_messages.specs.Replies.{Polys}
 use Rattle.blic_verifier.specs.Acceptance.{no_poly}
 use Rattle.blic_verifier.specs.Verdict.{Talk, next_after, with_reply, told_count}
 use Rattle.blic_verifier.specs.Standing.{Verifying, StandsFor}
-use Rattle.blic_verifier.specs.Holding.{IsFirstDifference}
 use Rattle.blic_verifier.specs.Fitted.{StageFits}
 use Rattle.blic_verifier.specs.declared.place.Part.TheVariants.{Poly}
 use Rattle.blic_verifier.specs.declared.next.Next.TheVariants.{Draw, Rejected, WrongCount}

@@ -1,4 +1,4 @@
-use Rattle.std.proofs.Common.{arith, ℕ, suc, ◌≡◌, ◌∙◌, ◌+◌, ◌<◌, ◌≤◌, ◌++◌, ◌∷◌, [], refl, ap, subst, sym, Bool, List, length, get_or}
+use Rattle.std.proofs.Common.{arith, ℕ, ◌≡◌, ◌∙◌, ◌<◌, ◌++◌, ◌∷◌, [], refl, ap, subst, sym, Bool, List, length, get_or}
 use Rattle.std.proofs.lemmas.List.{get_or_default}
 use Rattle.blic_model.specs.Circuit.{node_at}
 use Rattle.blic_claims.specs.Turns.{Reply as ReplyOf}
