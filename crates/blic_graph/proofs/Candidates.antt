@@ -1,14 +1,17 @@
 -- The walk over the pairs with one hash.
-use Rattle.std.proofs.Common.{arith, ℕ, ◌+◌, ◌<◌, ◌≤◌, ◌≡◌, ◌≢◌, refl, sym, ◌∙◌, ap, subst, List, length, map}
+use Rattle.std.proofs.Common.{arith, ℕ, ◌+◌, ◌-◌, ◌<◌, ◌≤◌, ◌≡◌, ◌≢◌, sym, ◌∙◌, ap, subst, List, length, map, drop}
 use Rattle.std.specs.Prelude.{false, ◌==◌, Option, Some, None, IfSome, IfNone}
 use Rattle.std.proofs.lemmas.Bool.Decides.{nat_tests}
-use Rattle.std.proofs.lemmas.List.{get_or-map, length-map}
+use Rattle.std.proofs.lemmas.List.{get_or-drop, get_or-map, length-drop, length-map}
 use mathlib.Core.Path.{ap₂}
 use Rattle.blic_store.specs.UniqueTable.{IsLast, HasNone, hash_at}
 use Rattle.blic_graph.specs.declared.pair.Pair.{Pair}
 use Rattle.blic_graph.specs.declared.pair.Side.TheVariants as Side
 use Rattle.blic_graph.specs.Pairs.{StandsAt, pair_at}
 use Rattle.blic_graph.specs.Listing.{IsMissing, hash_of}
+
+pub pair-drop : (pairs : List Pair) (start k : ℕ) → pair_at (drop start pairs) k ≡ pair_at pairs (start + k)
+pair-drop pairs start k = get_or-drop start pairs k (record { level = 0; first = 0; second = 0; low = Side.Done 0 0; high = Side.Done 0 0 })
 
 abbrev pub steps_left : Option ℕ → ℕ
 steps_left (Some k) = k + 1
@@ -68,8 +71,23 @@ candidate_older pairs hashes r s k o q c ne t n =
     (subst (λ z. IfSome o (IsLast z k (hash_of r s))) q (subst (λ z. IfSome o (IsLast hashes k z)) e t))
     (subst (λ z. IfNone o (HasNone z k (hash_of r s))) q (subst (λ z. IfNone o (HasNone hashes k z)) e n))
 
-pub missing_at_end : (pairs : List Pair) (r s : ℕ) (o : Option ℕ) → o ≡ None → IsCandidate pairs r s o → IsMissing pairs r s
-missing_at_end pairs r s o e c k x = let b = c.before k x in let z = ap steps_left e in omega arith
+-- The pairs from a place on.
+stands-drop : (pairs : List Pair) (start k r s : ℕ) → start ≤ k → StandsAt pairs k r s → StandsAt (drop start pairs) (k - start) r s
+stands-drop pairs start k r s l x =
+    let len = length-drop start pairs in
+    let i = x.in_range in
+    let e : start + (k - start) ≡ k = omega arith in
+    record {
+      in_range = omega arith;
+      first = ap (λ (z : Pair). z.first) (pair-drop pairs start (k - start)) ∙ (ap (λ z. (pair_at pairs z).first) e ∙ x.first);
+      second = ap (λ (z : Pair). z.second) (pair-drop pairs start (k - start)) ∙ (ap (λ z. (pair_at pairs z).second) e ∙ x.second);
+    }
+
+pub missing_at_end : (pairs : List Pair) (start r s : ℕ) (o : Option ℕ) → o ≡ None → IsCandidate (drop start pairs) r s o → IsMissing pairs start r s
+missing_at_end pairs start r s o e c k l x =
+    let b = c.before (k - start) (stands-drop pairs start k r s l x) in
+    let z = ap steps_left e in
+    omega arith
 
 pub unequal_numbers : (a b : ℕ) → (a == b) ≡ false → a ≢ b
 unequal_numbers a b e = grind (arith, nat_tests)

@@ -1,17 +1,16 @@
 -- A list of pairs that has the operands, and the children of each of its pairs, has all pairs; and the children of a pair are pairs.
-use Rattle.std.proofs.Common.{arith, ℕ, zero, suc, ◌+◌, ◌-◌, ◌^◌, ◌<◌, ◌≤◌, ◌≡◌, ◌≢◌, refl, sym, ◌∙◌, ap, subst, ◌⊎◌, inl, inr, List, [], ◌∷◌, ◌++◌, length, get_or, Bool, false, true, cond, append_assoc, append-nil}
+use Rattle.std.proofs.Common.{arith, ℕ, zero, suc, ◌+◌, ◌-◌, ◌<◌, ◌≤◌, ◌≡◌, ◌≢◌, refl, sym, ◌∙◌, subst, ◌⊎◌, inl, inr, List, [], ◌∷◌, ◌++◌, length, Bool, false, append_assoc, append-nil}
 use Rattle.std.specs.Prelude.{min}
-use Rattle.std.proofs.lemmas.Bool.{cases_eq, cases_lt, ne_eqb}
+use Rattle.std.proofs.lemmas.Bool.{cases_eq, cases_lt}
 use Rattle.std.proofs.lemmas.List.{length_push}
 use Rattle.blic_store.specs.declared.decision.Decision.{Decision}
-use Rattle.blic_store.specs.Function.{Function, Same, after}
-use Rattle.blic_store.specs.Diagram.{cofactor, function, level_of, low_of, high_of, IsRef}
+use Rattle.blic_store.specs.Diagram.{cofactor, level_of, IsRef}
 use Rattle.blic_store.specs.Canonical.{IsCanonical}
 use Rattle.blic_store.specs.Under.{IsUnder}
 use Rattle.blic_store.proofs.Canonical.{same_ref}
-use Rattle.blic_store.proofs.Cofactors.{IsCofactor, cofactor-other, is_cofactor}
+use Rattle.blic_store.proofs.Cofactors.{cofactor-other, is_cofactor}
 use Rattle.blic_store.proofs.Under.{pad_one, under_cofactor, under_constant, under_none}
-use Rattle.blic_graph.specs.Pairs.{IsPairOf, level_of_pair}
+use Rattle.blic_graph.specs.Pairs.{IsInner, IsPairOf, level_of_pair}
 use Rattle.blic_graph.specs.Listing.{IsUnderBoth}
 
 -- A set of pairs that has the operands and is closed under fixing a pair's level.
@@ -105,10 +104,10 @@ under_both_child nodes c a b r s x v u i j e =
     }
 
 -- It decides below the pair's level.
-pub child_below : (nodes : List Decision) → IsCanonical nodes → (a b r s x : ℕ) (v : Bool) → IsUnderBoth nodes a b r s → 2 ≤ r → 2 ≤ s → x ≡ level_of_pair nodes r s → x < level_of_pair nodes (cofactor nodes r x v) (cofactor nodes s x v)
-child_below nodes c a b r s x v u i j e =
-    let f = is_cofactor nodes c r x v u.first.held i (omega arith) in
-    let g = is_cofactor nodes c s x v u.second.held j (omega arith) in
+pub child_below : (nodes : List Decision) → IsCanonical nodes → (r s x : ℕ) (v : Bool) → IsInner nodes r → IsInner nodes s → x ≡ level_of_pair nodes r s → x < level_of_pair nodes (cofactor nodes r x v) (cofactor nodes s x v)
+child_below nodes c r s x v i j e =
+    let f = is_cofactor nodes c r x v i.held i.inner (omega arith) in
+    let g = is_cofactor nodes c s x v j.held j.inner (omega arith) in
     let fb = f.below in
     let gb = g.below in
     omega arith

@@ -1,8 +1,12 @@
-pub mod Begun
+pub mod Answering
 pub mod Candidates
 pub mod Closed
 pub mod Errors
+pub mod Graphs
+pub mod Kept
 pub mod Keys
-pub mod Orders
-pub mod Reordered
+pub mod Listings
+pub mod Queues
+pub mod Requests
 pub mod Room
+pub mod Sides

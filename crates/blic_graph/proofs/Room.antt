@@ -1,8 +1,8 @@
 -- Where a list has all pairs, no more than it has are different.
-use Rattle.std.proofs.Common.{arith, ℕ, ◌<◌, ◌≤◌, ◌≡◌, ◌≢◌, sym, ◌∙◌, ap, List, length, get_or}
+use Rattle.std.proofs.Common.{arith, ℕ, ◌≤◌, sym, ◌∙◌, List, length, get_or}
 use mathlib.Core.Path.{ap₂}
 use Rattle.blic_store.specs.declared.decision.Decision.{Decision}
-use Rattle.blic_store.proofs.Pigeonhole.{IsImage, le_from_images}
+use Rattle.blic_store.proofs.Pigeonhole.{le_from_images}
 use Rattle.blic_graph.specs.declared.pair.Pair.{Pair}
 use Rattle.blic_graph.specs.Pairs.{IsGraph, PassesMost, StandsAt}
 

@@ -1,3 +1,3 @@
 pub mod Listing
 pub mod Pairs
-pub mod Reordering
+pub mod Queue

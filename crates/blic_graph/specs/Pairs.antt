@@ -5,7 +5,6 @@ use Rattle.blic_store.specs.Function.{Same, after}
 use Rattle.blic_store.specs.Diagram.{IsRef, cofactor, function, level_of}
 use Rattle.blic_graph.specs.declared.pair.Pair.{Pair}
 use Rattle.blic_graph.specs.declared.pair.Side.{Side}
-use Rattle.blic_graph.specs.declared.pair.Side.TheVariants as Side
 
 -- a ref of the list that is no constant
 pub record IsInner (nodes : List Decision) (r : ℕ) : Type 0 where

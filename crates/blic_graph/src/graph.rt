@@ -3,7 +3,6 @@ ghost use Rattle.std.specs.Prelude.{◌≡◌, ◌<◌, ◌≤◌, ◌^◌, ◌�
 ghost use Rattle.blic_graph.specs.Pairs.{IsGraph, PassesMost, pair_at};
 ghost use Rattle.blic_store.specs.Diagram.{IsRef};
 
-use crate::by_level::by_level;
 use crate::listing::all_pairs;
 use crate::pair::{Pair, Side};
 use blic_store::{Ref, Store};
@@ -39,10 +38,12 @@ impl Model for Graph {
 }
 
 impl Graph {
-    /// Lists the pairs of two functions of the store. It takes time that grows with n log n for n pairs.
+    /// Lists the pairs of two functions of the store, that of the two themselves first; where one of
+    /// them is constant there is none. The time grows with the number of pairs, and by the logarithm
+    /// of the number of levels that wait at once.
     ///
-    /// Refuses with `PairsFull` exactly where there are more than `most` pairs, and then
-    /// no list within `most` has them all (`pairs_full_law`).
+    /// Refuses with `PairsFull` exactly where there are more than `most` pairs: no list within
+    /// `most` has them all (`pairs_full_law`).
     pub fn list(
         alloc: Global,
         store: &Store,
@@ -63,11 +64,8 @@ impl Graph {
                 pairs: Vec::new(alloc),
             });
         }
-        let list = all_pairs(alloc, store, a, b, most)?;
-        match by_level(alloc, list.into_pairs()) {
-            Ok(pairs) => Ok(Graph { pairs }),
-            Err(_) => Err(GraphError::NoMem),
-        }
+        let pairs = all_pairs(alloc, store, a, b, most)?;
+        Ok(Graph { pairs })
     }
 
     /// The number of pairs.

@@ -1,6 +1,6 @@
 -- The walk over the decisions with one hash.
 use Rattle.std.proofs.Common.{arith, ℕ, ◌+◌, ◌<◌, ◌≤◌, ◌≡◌, ◌≢◌, refl, sym, ◌∙◌, ap, subst, List, length, map}
-use Rattle.std.specs.Prelude.{Bool, true, false, ◌&&◌, ◌==◌, Option, Some, None, IfSome, IfNone}
+use Rattle.std.specs.Prelude.{true, false, ◌&&◌, ◌==◌, Option, Some, None, IfSome, IfNone}
 use Rattle.std.proofs.lemmas.Bool.{eq-eqb}
 use Rattle.std.proofs.lemmas.List.{get_or-map, length-map}
 use Rattle.blic_store.specs.declared.decision.Decision.{Decision}

@@ -1,15 +1,15 @@
 -- In a canonical list equal functions have equal refs.
-use Rattle.std.proofs.Common.{arith, ℕ, zero, suc, ◌+◌, ◌-◌, ◌^◌, ◌<◌, ◌≤◌, ◌≡◌, ◌≢◌, refl, sym, ◌∙◌, ap, subst, ◌⊎◌, inl, inr, List, [], ◌∷◌, ◌++◌, length, get_or, take, drop, Bool, false, true, cond, eqb, append_assoc}
-use Rattle.std.proofs.lemmas.Bool.{cases_eq, cases_lt}
+use Rattle.std.proofs.Common.{arith, ℕ, zero, suc, ◌+◌, ◌^◌, ◌<◌, ◌≤◌, ◌≡◌, refl, sym, ◌∙◌, ap, ◌⊎◌, inl, inr, List, [], ◌∷◌, ◌++◌, length, take, drop, Bool, false, true, cond, eqb, append_assoc}
+use Rattle.std.proofs.lemmas.Bool.{cases_lt}
 use Rattle.std.proofs.lemmas.List.{take-append-drop, length-take-le, length_push}
 use Rattle.std.proofs.Math.Seq.{drop-cons}
-use mathlib.Core.Path.{ap₂, fun_ext}
+use mathlib.Core.Path.{ap₂}
 use Rattle.blic_store.specs.declared.decision.Decision.{Decision}
 use Rattle.blic_store.specs.Canonical.{IsPlaced, IsCanonical}
-use Rattle.blic_store.specs.Diagram.{functions, function, decision_at, level_of, IsRef}
-use Rattle.blic_store.specs.Function.{Function, Same, choice}
+use Rattle.blic_store.specs.Diagram.{function, decision_at, level_of}
+use Rattle.blic_store.specs.Function.{Same, choice}
 use Rattle.blic_store.proofs.Functions.{function-append, function-false, function-true, function-last}
-use Rattle.blic_store.proofs.Levels.{level_of-suc, level_of-node, level_of-const}
+use Rattle.blic_store.proofs.Levels.{level_of-suc, level_of-const}
 
 pub with_bit : (ℕ → Bool) → ℕ → Bool → ℕ → Bool
 with_bit p x b y = cond (eqb y x) b (p y)

@@ -1,11 +1,10 @@
 -- Chains of buckets: empty ones, one more item, and longer lists.
-use Rattle.std.proofs.Common.{arith, ℕ, ◌+◌, ◌-◌, ◌<◌, ◌≤◌, ◌≡◌, ◌≢◌, refl, sym, ◌∙◌, ap, subst, inl, inr, List, [], ◌∷◌, ◌++◌, length, get_or, map}
+use Rattle.std.proofs.Common.{arith, ℕ, ◌+◌, ◌-◌, ◌<◌, ◌≡◌, ◌≢◌, sym, ◌∙◌, ap, subst, inl, inr, List, length, get_or}
 use Rattle.std.specs.Prelude.{set}
 use Rattle.std.proofs.lemmas.Bool.{cases_eq}
-use Rattle.std.proofs.lemmas.List.{get_or-set_other, get_or_append_left}
+use Rattle.std.proofs.lemmas.List.{get_or-set_other}
 use Rattle.std.proofs.lemmas.Grind.{get_or-set_at}
-use Rattle.blic_store.specs.declared.unique_table.Link.{Link}
-use Rattle.blic_store.specs.UniqueTable.{IsChained, HasChains, bucket, bucket_at, older_at, link_at}
+use Rattle.blic_store.specs.UniqueTable.{IsChained}
 
 pub chained_none : (bucket_of older : ℕ → ℕ) (heads : List ℕ) → ((b : ℕ) → get_or heads b 0 ≡ 0) → IsChained bucket_of older 0 heads
 chained_none bucket_of older heads e = record {

@@ -1,11 +1,10 @@
 -- A ref with one level fixed.
-use Rattle.std.proofs.Common.{arith, ℕ, zero, suc, ◌+◌, ◌-◌, ◌^◌, ◌<◌, ◌≤◌, ◌≡◌, ◌≢◌, refl, sym, ◌∙◌, ap, subst, ◌⊎◌, inl, inr, List, length, get_or, Bool, false, true, cond, eqb}
+use Rattle.std.proofs.Common.{arith, ℕ, suc, ◌-◌, ◌<◌, ◌≤◌, ◌≡◌, ◌≢◌, sym, ◌∙◌, ap, subst, inl, inr, List, length, Bool, false, true, cond}
 use Rattle.std.proofs.lemmas.Bool.{cases_eq, eq-eqb, ne_eqb}
 use Rattle.blic_store.specs.declared.decision.Decision.{Decision}
-use Rattle.blic_store.specs.Canonical.{IsPlaced, IsCanonical}
+use Rattle.blic_store.specs.Canonical.{IsCanonical}
 use Rattle.blic_store.specs.Diagram.{function, decision_at, level_of, low_of, high_of, cofactor, IsRef}
-use Rattle.blic_store.specs.Function.{Function}
-use Rattle.blic_store.proofs.Levels.{level_of-suc, level_of-const, level_of-node}
+use Rattle.blic_store.proofs.Levels.{level_of-suc}
 use Rattle.blic_store.proofs.Canonical.{with_bit, low_is, high_is, blind}
 
 pub cofactor-here : (nodes : List Decision) (r x : ℕ) (v : Bool) → level_of nodes r ≡ x → cofactor nodes r x v ≡ cond v (high_of nodes r) (low_of nodes r)

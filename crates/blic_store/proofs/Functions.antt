@@ -1,11 +1,11 @@
 -- The functions of refs: longer lists keep them, and a node is a choice between its parts.
-use Rattle.std.proofs.Common.{arith, ℕ, suc, ◌+◌, ◌<◌, ◌≤◌, ◌≡◌, refl, sym, ◌∙◌, ap, subst, List, [], ◌∷◌, ◌++◌, length, get_or, take, drop, Bool, false, true}
+use Rattle.std.proofs.Common.{arith, ℕ, ◌+◌, ◌<◌, ◌≡◌, refl, sym, ◌∙◌, ap, List, [], ◌∷◌, ◌++◌, length, get_or, false, true}
 use Rattle.std.specs.Prelude.{fold}
-use Rattle.std.proofs.lemmas.List.{get_or_append_left, get_or-append-add, length-append, length_push}
-use Rattle.std.proofs.Math.Seq.{get_or-append_seam, drop-cons}
+use Rattle.std.proofs.lemmas.List.{get_or_append_left, length-append, length_push}
+use Rattle.std.proofs.Math.Seq.{get_or-append_seam}
 use Rattle.std.proofs.lemmas.List.Sums.{fold-append}
 use Rattle.blic_store.specs.declared.decision.Decision.{Decision}
-use Rattle.blic_store.specs.Diagram.{add_function, functions, function, decision_at}
+use Rattle.blic_store.specs.Diagram.{add_function, functions, function}
 use Rattle.blic_store.specs.Function.{Function, choice}
 
 none : Function

@@ -1,5 +1,5 @@
 -- Levels of refs.
-use Rattle.std.proofs.Common.{arith, ℕ, zero, suc, ◌≡◌, ◌+◌, ◌-◌, ◌^◌, ◌<◌, ◌≤◌, refl, sym, ap, ◌∙◌, List, length, get_or}
+use Rattle.std.proofs.Common.{arith, ℕ, zero, suc, ◌≡◌, ◌-◌, ◌^◌, ◌<◌, ◌≤◌, refl, ap, ◌∙◌, List}
 use Rattle.blic_store.specs.declared.decision.Decision.{Decision}
 use Rattle.blic_store.specs.Diagram.{level_of, decision_at}
 

@@ -1,20 +1,20 @@
 -- Stores: an empty one, and one with a node more.
-use Rattle.std.proofs.Common.{arith, ℕ, zero, suc, ◌+◌, ◌-◌, ◌^◌, ◌<◌, ◌≤◌, ◌≡◌, ◌≢◌, refl, sym, ◌∙◌, ap, subst, ◌⊎◌, inl, inr, List, [], ◌∷◌, ◌++◌, length, get_or, map, Bool, false, true, cond}
-use Rattle.std.specs.Prelude.{◌==◌, replicate, Result, Ok, Err, OnOk, IfOk}
+use Rattle.std.proofs.Common.{arith, ℕ, zero, suc, ◌+◌, ◌-◌, ◌^◌, ◌<◌, ◌≤◌, ◌≡◌, ◌≢◌, refl, sym, ◌∙◌, ap, subst, inl, inr, List, [], ◌∷◌, ◌++◌, length, map, Bool, false, true, cond}
+use Rattle.std.specs.Prelude.{◌==◌, Result, Ok, Err, OnOk, IfOk}
 use Rattle.std.specs.Result.{is_err}
-use Rattle.std.proofs.lemmas.Bool.{cases_eq, cases_lt}
+use Rattle.std.proofs.lemmas.Bool.{cases_lt}
 use Rattle.std.proofs.lemmas.Bool.Decides.{nat_tests}
-use Rattle.std.proofs.lemmas.List.{get_or-replicate, length-replicate, get_or_append_left, length_push, get_or_past, append-nil, map-append}
+use Rattle.std.proofs.lemmas.List.{get_or_append_left, length_push, append-nil, map-append}
 use Rattle.std.proofs.Math.Seq.{get_or-append_seam}
 use Rattle.blic_store.specs.declared.decision.Decision.{Decision}
 use Rattle.blic_store.specs.Canonical.{IsPlaced, IsCanonical}
 use Rattle.blic_store.specs.Diagram.{function, decision_at, level_of, IsRef}
-use Rattle.blic_store.specs.Function.{Function, Same, choice, IsPart, after}
+use Rattle.blic_store.specs.Function.{Function, Same, choice, IsPart}
 use Rattle.blic_store.specs.Growth.{Adds, Diagrams, Answers, PassesLimit}
 use Rattle.blic_store.specs.Store.{IsStore, hash_of}
 use Rattle.blic_store.proofs.Levels.{level_of-suc, level_of-const}
 use Rattle.blic_store.proofs.Canonical.{function-node}
-use Rattle.blic_store.proofs.Functions.{function-append, function-last}
+use Rattle.blic_store.proofs.Functions.{function-last}
 
 pub canonical_none : IsCanonical []
 canonical_none = record { placed = λ k h. absurd (omega arith); unique = λ j k l h. absurd (omega arith) }

@@ -1,13 +1,13 @@
 -- Parts of functions, stores that grow, and the level of a ref.
-use Rattle.std.proofs.Common.{arith, ℕ, zero, suc, ◌+◌, ◌-◌, ◌^◌, ◌<◌, ◌≤◌, ◌≡◌, ◌≢◌, refl, sym, ◌∙◌, ap, subst, ◌⊎◌, inl, inr, List, [], ◌∷◌, ◌++◌, length, get_or, drop, Bool, false, true, cond, append_assoc}
-use Rattle.std.proofs.lemmas.Bool.{cases_eq, cases_lt}
+use Rattle.std.proofs.Common.{arith, ℕ, zero, suc, ◌+◌, ◌-◌, ◌^◌, ◌<◌, ◌≤◌, ◌≡◌, sym, ◌∙◌, ap, inl, inr, List, ◌++◌, length, get_or, drop, Bool, false, true, append_assoc}
+use Rattle.std.proofs.lemmas.Bool.{cases_lt}
 use Rattle.std.proofs.lemmas.List.{get_or_append_left, get_or_past, get_or_default, get_or-drop, length-append}
 use Rattle.std.proofs.Math.Seq.{get_or-append_right}
 use mathlib.Core.Path.{fun_ext}
 use Rattle.blic_store.specs.declared.decision.Decision.{Decision}
-use Rattle.blic_store.specs.Canonical.{IsPlaced, IsCanonical}
+use Rattle.blic_store.specs.Canonical.{IsCanonical}
 use Rattle.blic_store.specs.Diagram.{function, decision_at, level_of, IsRef}
-use Rattle.blic_store.specs.Function.{Function, Same, choice, IsPart, after}
+use Rattle.blic_store.specs.Function.{Function, Same, IsPart, after}
 use Rattle.blic_store.specs.Growth.{Adds}
 use Rattle.blic_store.proofs.Levels.{level_of-suc, level_of-const}
 use Rattle.blic_store.proofs.Functions.{function-append}

@@ -1,18 +1,17 @@
 -- A ref with some topmost levels fixed.
-use Rattle.std.proofs.Common.{arith, ℕ, zero, suc, ◌+◌, ◌-◌, ◌^◌, ◌<◌, ◌≤◌, ◌≡◌, ◌≢◌, refl, sym, ◌∙◌, ap, subst, ◌⊎◌, inl, inr, List, [], ◌∷◌, ◌++◌, length, get_or, Bool, false, true, cond, append_assoc, append-nil}
-use Rattle.std.specs.Prelude.{min}
-use Rattle.std.proofs.lemmas.Bool.{cases_eq, cases_lt, ne_eqb}
+use Rattle.std.proofs.Common.{arith, ℕ, zero, suc, ◌<◌, ◌≤◌, ◌≡◌, ◌≢◌, refl, sym, ◌∙◌, ap, subst, inl, inr, List, [], ◌∷◌, ◌++◌, length, get_or, Bool, false, append_assoc, append-nil}
+use Rattle.std.proofs.lemmas.Bool.{cases_eq, cases_lt}
 use Rattle.std.proofs.lemmas.List.{get_or_append_left, get_or_past, get_or_default, length_push}
 use Rattle.std.proofs.Math.Seq.{get_or-append_seam}
 use mathlib.Core.Path.{fun_ext}
 use Rattle.blic_store.specs.declared.decision.Decision.{Decision}
 use Rattle.blic_store.specs.Canonical.{IsCanonical}
 use Rattle.blic_store.specs.Under.{IsUnder}
-use Rattle.blic_store.specs.Diagram.{function, level_of, low_of, high_of, cofactor, IsRef}
-use Rattle.blic_store.specs.Function.{Function, Same, after}
+use Rattle.blic_store.specs.Diagram.{function, level_of, cofactor, IsRef}
+use Rattle.blic_store.specs.Function.{after}
 use Rattle.blic_store.proofs.Functions.{function-false, function-true}
-use Rattle.blic_store.proofs.Canonical.{with_bit, with_bit-here, with_bit-other, blind, same_ref}
-use Rattle.blic_store.proofs.Cofactors.{IsCofactor, is_cofactor}
+use Rattle.blic_store.proofs.Canonical.{with_bit, with_bit-here, with_bit-other, blind}
+use Rattle.blic_store.proofs.Cofactors.{is_cofactor}
 
 pub after_step : (u : List Bool) (p : ℕ → Bool) (v : Bool) (y : ℕ) → after u (with_bit p (length u) v) y ≡ after (u ++ v ∷ []) p y
 after_step u p v y = elim (cases_lt y (length u)) [

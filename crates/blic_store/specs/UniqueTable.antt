@@ -1,5 +1,5 @@
 -- The unique table: numbers from 0 on, each entered with a hash, and for each bucket of hashes a chain of its numbers, the newest first. Chains hold numbers plus one, and 0 for none.
-use Rattle.std.specs.Prelude.{ℕ, ◌+◌, ◌*◌, ◌-◌, ◌/◌, ◌^◌, ◌<◌, ◌≤◌, ◌≡◌, ◌≢◌, List, length, slice_index_or}
+use Rattle.std.specs.Prelude.{ℕ, ◌*◌, ◌-◌, ◌/◌, ◌^◌, ◌<◌, ◌≤◌, ◌≡◌, ◌≢◌, List, length, slice_index_or}
 use Rattle.blic_store.specs.declared.unique_table.Link.{Link}
 
 -- the hash that number k was entered with

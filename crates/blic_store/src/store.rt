@@ -123,12 +123,12 @@ impl Store {
         if bit { self.high(r) } else { self.low(r) }
     }
 
-    /// The function that is `lo` where the level's bit is 0 and `hi` where it is 1. It is answered by the ref
-    /// that stands for it already, if there is one, and else by a new one; the refs made before keep their
+    /// The function that is `lo` where the level's bit is 0 and `hi` where it is 1: the ref that
+    /// stands for it already, if there is one, and else a new one. The refs made before keep their
     /// functions. It takes constant time, but for the growth of the store's tables.
     ///
-    /// Refuses with `Full` exactly where the function is new and `limit` decisions are held (`full_law` says that no
-    /// such function has an answer within the limit), and then the store is as before.
+    /// Refuses with `Full` exactly where the function is new and `limit` decisions are held: no
+    /// store within the limit has it (`full_law`). A refusal leaves the store as it was.
     pub fn make(&mut self, level: u32, lo: Ref, hi: Ref) -> Result<Ref, StoreError>
         requires lo_held { IsRef self.old.nodes lo }
         requires hi_held { IsRef self.old.nodes hi }

@@ -1,20 +1,45 @@
-use Rattle.std.proofs.Common.{arith, ◌≡◌, length}
+use Rattle.std.proofs.Common.{arith, ◌≡◌, length, ap, sym, ◌∙◌, subst}
+use Rattle.std.specs.Prelude.{min}
+use mathlib.Core.Path.{ap₂}
 use Rattle.std.proofs.lemmas.Result.{err_from_is_err_and}
 use Rattle.blic_graph.specs.declared.graph.GraphError.TheVariants.{PairsFull}
-use Rattle.blic_graph.proofs.Begun.{begun_root, full_root, operands_root}
+use Rattle.blic_graph.specs.Pairs.{IsGraph, level_of_pair}
 use Rattle.blic_graph.proofs.Errors.{same_error}
+use Rattle.blic_graph.proofs.Graphs.{full_root, going_root, graph_of, no_room_at_all, operands_root}
+use Rattle.blic_graph.proofs.Listings.{taken_next}
 use Rattle.blic_graph.proofs.listing.all_pairs.Goals as goal
 
-pub returns-in_err-side-clause-full : goal.returns-in_err-side-clause-full
-returns-in_err-side-clause-full c =
-    let p = err_from_is_err_and c.from_residual.result c.from_residual.ensures.1 in
+pub returns-in_err-add-clause-full : goal.returns-in_err-add-clause-full
+returns-in_err-add-clause-full c =
+    let p = err_from_is_err_and c.from_residual-in_err-add.result c.from_residual-in_err-add.ensures.1 in
+    let level : c.min-level.result ≡ level_of_pair c.args.store.now.nodes c.args.a c.args.b = c.min-level.ensures ∙ ap₂ min c.level.ensures c.level-2.ensures in
     rw (p.1, p.2) (λ e.
-    full_root c.args.store.now.nodes c.args.a c.args.b c.args.most c.in-Ok.list c.in-Ok.ensures c.requires.a_inner c.requires.b_inner
-    (c.in_err-side.ensures.full (same_error c.in_err-side.field-0.0 PairsFull e)))
+    full_root c.args.store.now.nodes c.args.a c.args.b c.args.most c.min-level.result c.in_ok-list.list c.in_ok-list.ensures.empty c.requires.a_inner c.requires.b_inner level
+    (no_room_at_all c.args.a c.args.b c.args.most c.min-level.result c.in_ok-list.list c.in_ok-list.ensures.empty (c.in_err-add.ensures.full (same_error c.in_err-add.field-0.0 PairsFull e))))
 
-pub pairs-init : goal.pairs-init
-pairs-init c = record {
-  begun = begun_root c.args.store.now.nodes c.args.a c.args.b c.args.most c.in-Ok.list c.side.new.self c.in_ok-side.field-0 c.in-Ok.ensures c.requires.a_inner c.requires.b_inner c.in_ok-side.ensures.side c.in_ok-side.ensures.pairs;
-  in_range = omega arith;
-  operands = operands_root c.args.store.now.nodes c.args.a c.args.b c.args.most c.in-Ok.list c.side.new.self c.in-Ok.ensures c.in_ok-side.ensures.pairs;
-}
+pub requests-init : goal.requests-init
+requests-init c =
+    let level : c.min-level.result ≡ level_of_pair c.args.store.now.nodes c.args.a c.args.b = c.min-level.ensures ∙ ap₂ min c.level.ensures c.level-2.ensures in
+    let operands = operands_root c.args.store.now.nodes c.args.a c.args.b c.args.most c.min-level.result c.in_ok-list.list c.add.new.self c.in_ok-list.ensures.empty c.in_ok-add.ensures.pairs in
+    record {
+      going = going_root c.args.store.now.nodes c.canonical_law.ensures.canonical c.args.a c.args.b c.args.most c.min-level.result c.in_ok-list.list c.add.new.self c.in_ok-list.ensures.empty c.requires.a_inner c.requires.b_inner level c.in_ok-add.ensures.pairs;
+      first = operands.0;
+      second = operands.1;
+      most = operands.2;
+    }
+
+pub answer-requires-clause-taken : goal.answer-requires-clause-taken
+answer-requires-clause-taken c =
+    taken_next c.args.store.now.nodes c.requests.list c.next.new.self c.in-Some.k c.requests.invariant.going c.in-Some.ensures.queue c.in-Some.ensures.begins
+
+pub returns-clause-graph : goal.returns-clause-graph
+returns-clause-graph c =
+    let l = c.requests.list in
+    subst (IsGraph c.args.store.now.nodes c.args.a c.args.b) (sym (c.into_pairs.ensures ∙ c.next.ensures.pairs))
+    (graph_of c.args.store.now.nodes c.canonical_law.ensures.canonical c.args.a c.args.b l c.requires.a_inner.held c.requires.b_inner.held
+    c.requests.invariant.first c.requests.invariant.second c.requests.invariant.going c.in_default.ensures.none)
+
+pub returns-clause-within : goal.returns-clause-within
+returns-clause-within c =
+    let few = c.requests.invariant.going.listing.few in
+    omega (arith, ap length (c.into_pairs.ensures ∙ c.next.ensures.pairs), c.requests.invariant.most)

@@ -1,13 +1,15 @@
-use Rattle.std.proofs.Common.{◌≡◌, ◌-◌, ◌<◌, ◌≤◌, ◌^◌, length}
-use Rattle.blic_graph.specs.Listing.{Found, IsBegun}
+use Rattle.std.proofs.Common.{◌≡◌}
+use Rattle.blic_graph.specs.Listing.{IsGoing}
+use Rattle.blic_graph.specs.Queue.{turns_left}
 use Rattle.blic_graph.proofs.listing.all_pairs.Given as goal
 
-abbrev pub invariant-pairs : goal.invariant-pairs
-invariant-pairs l = record {
-  begun : IsBegun l.store.nodes l.list l.k;
-  in_range : l.k ≤ length l.list.pairs;
-  operands : l.list ≡ record { first = l.fn.a; second = l.fn.b; most = l.fn.most; pairs = l.list.pairs };
+abbrev pub invariant-requests : goal.invariant-requests
+invariant-requests l = record {
+  going : IsGoing l.store.nodes l.list;
+  first : l.list.first ≡ l.fn.a;
+  second : l.list.second ≡ l.fn.b;
+  most : l.list.most ≡ l.fn.most;
 }
 
-abbrev pub decreases-pairs : goal.decreases-pairs
-decreases-pairs l = l.fn.most - l.k
+abbrev pub decreases-requests : goal.decreases-requests
+decreases-requests l = turns_left l.list.queue

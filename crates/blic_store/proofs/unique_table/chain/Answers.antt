@@ -1,4 +1,4 @@
-use Rattle.std.proofs.Common.{arith, ◌≡◌, ◌+◌, length, refl}
+use Rattle.std.proofs.Common.{◌+◌, refl}
 use Rattle.blic_store.proofs.Links.{chains-chain, hashes-chain}
 use Rattle.blic_store.proofs.unique_table.chain.Goals as goal
 

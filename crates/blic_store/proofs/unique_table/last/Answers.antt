@@ -1,4 +1,4 @@
-use Rattle.std.proofs.Common.{arith, ℕ, ◌≡◌, ◌≢◌, ◌-◌, ◌<◌, ◌≤◌, length, get_or, sym, ◌∙◌, ap, inl, inr}
+use Rattle.std.proofs.Common.{arith, ◌≡◌, ◌≢◌, ◌-◌, ◌<◌, ◌≤◌, length, sym, ◌∙◌, ap, inl, inr}
 use Rattle.std.proofs.lemmas.Bool.{cases_eq}
 use Rattle.blic_store.specs.UniqueTable.{bucket, bucket_at, link_at, older_at}
 use Rattle.blic_store.proofs.Links.{hash_at-map}

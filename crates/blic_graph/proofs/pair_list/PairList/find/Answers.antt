@@ -1,32 +1,41 @@
-use Rattle.std.proofs.Common.{arith, ◌≡◌, ◌<◌, ◌+◌, length, ap, sym, ◌∙◌, subst, List}
+use Rattle.std.proofs.Common.{arith, ◌≡◌, ◌+◌, ap, sym, ◌∙◌, subst, drop}
 use Rattle.std.specs.Prelude.{Some}
-use Rattle.std.proofs.lemmas.List.{get_or_read}
+use Rattle.std.proofs.lemmas.List.{get_or_read, length-drop}
 use Rattle.blic_graph.specs.declared.pair.Pair.{Pair}
 use Rattle.blic_graph.specs.declared.pair.Side.TheVariants as Side
 use Rattle.blic_graph.specs.Pairs.{StandsAt, pair_at}
-use Rattle.blic_graph.proofs.Candidates.{IsCandidate, candidate_newest, candidate_older, unequal_numbers}
+use Rattle.blic_graph.specs.Listing.{Found}
+use Rattle.blic_graph.proofs.Candidates.{IsCandidate, candidate_newest, candidate_older, missing_at_end, pair-drop, unequal_numbers}
 use Rattle.blic_graph.proofs.pair_list.PairList.find.Goals.{else-eq-via-then-eq+else-eq-2, else-eq-via-else-eq}
 use Rattle.blic_graph.proofs.pair_list.PairList.find.Goals as goal
 
 pub loop-candidate-init : goal.loop-candidate-init
 loop-candidate-init c =
-    subst (λ z. IsCandidate z c.args.first c.args.second c.newest-candidate.result) (ap (λ d. d.pairs) c.self.view_is)
-    (candidate_newest c.self.inside.pairs.items c.self.inside.table c.args.first c.args.second c.hash.result c.newest-candidate.result
+    subst (λ (z : Found). IsCandidate (drop z.start z.pairs) c.args.first c.args.second c.newest-candidate.result) c.self.view_is
+    (candidate_newest (drop c.self.inside.start c.self.inside.pairs.items) c.self.inside.table c.args.first c.args.second c.hash.result c.newest-candidate.result
     c.self.invariant.entered c.hash.ensures c.newest-candidate.ensures.some c.newest-candidate.ensures.none)
 
 pub loop-candidate-preserved : goal.loop-candidate-preserved
 loop-candidate-preserved c =
     let inside = c.self.inside.pairs.items in
+    let start = c.self.inside.start in
     let r = c.args.first in
     let s = c.args.second in
-    let now : inside ≡ c.args.self.now.pairs = ap (λ z. z.pairs) c.self.view_is in
-    let here : IsCandidate inside r s (Some c.in-Some.k) = subst (λ z. IsCandidate z r s (Some c.in-Some.k)) (sym now) (subst (IsCandidate c.args.self.now.pairs r s) c.in-Some.is c.loop-candidate.invariant) in
+    let here : IsCandidate (drop start inside) r s (Some c.in-Some.k) =
+    subst (λ (z : Found). IsCandidate (drop z.start z.pairs) r s (Some c.in-Some.k)) (sym c.self.view_is) (subst (IsCandidate (drop c.args.self.now.start c.args.self.now.pairs) r s) c.in-Some.is c.loop-candidate.invariant) in
     let l = here.in_range in
-    let read : c.index-pair.result.now ≡ pair_at inside c.in-Some.k = get_or_read inside c.in-Some.k c.index-pair.result.now (omega arith) c.index-pair.ensures (record { level = 0; first = 0; second = 0; low = Side.Done 0 0; high = Side.Done 0 0 }) in
-    let other : StandsAt inside c.in-Some.k r s → ⊥ = λ x. elim c.else-eq.branch [
-      | else-eq-via-then-eq+else-eq-2 w ↦ unequal_numbers c.index-pair.result.now.second s (sym w.eq-then-eq.ensures ∙ w.if-eq-2.false) (ap (λ (z : Pair). z.second) read ∙ x.second)
-      | else-eq-via-else-eq w ↦ unequal_numbers c.index-pair.result.now.first r (sym c.eq.ensures ∙ w.if-eq.false) (ap (λ (z : Pair). z.first) read ∙ x.first)
+    let len = length-drop start inside in
+    let read : c.index-pair.result.now ≡ pair_at inside (start + c.in-Some.k) = get_or_read inside (start + c.in-Some.k) c.index-pair.result.now (omega arith) c.index-pair.ensures (record { level = 0; first = 0; second = 0; low = Side.Done 0 0; high = Side.Done 0 0 }) in
+    let dropped : pair_at (drop start inside) c.in-Some.k ≡ pair_at inside (start + c.in-Some.k) = pair-drop inside start c.in-Some.k in
+    let same : c.index-pair.result.now ≡ pair_at (drop start inside) c.in-Some.k = read ∙ sym dropped in
+    let other : StandsAt (drop start inside) c.in-Some.k r s → ⊥ = λ x. elim c.else-eq.branch [
+      | else-eq-via-then-eq+else-eq-2 w ↦ unequal_numbers c.index-pair.result.now.second s (sym w.eq-then-eq.ensures ∙ w.if-eq-2.false) (ap (λ (z : Pair). z.second) same ∙ x.second)
+      | else-eq-via-else-eq w ↦ unequal_numbers c.index-pair.result.now.first r (sym c.eq.ensures ∙ w.if-eq.false) (ap (λ (z : Pair). z.first) same ∙ x.first)
     ] in
-    subst (λ z. IsCandidate z r s c.older-candidate.result) now
-    (candidate_older inside c.self.inside.table r s c.in-Some.k c.older-candidate.result c.self.invariant.entered here other
+    subst (λ (z : Found). IsCandidate (drop z.start z.pairs) r s c.older-candidate.result) c.self.view_is
+    (candidate_older (drop start inside) c.self.inside.table r s c.in-Some.k c.older-candidate.result c.self.invariant.entered here other
     c.older-candidate.ensures.some c.older-candidate.ensures.none)
+
+pub returns-clause-none : goal.returns-clause-none
+returns-clause-none c k l x =
+    missing_at_end c.args.self.now.pairs c.args.self.now.start c.args.first c.args.second c.loop-candidate.candidate c.in_default.is c.loop-candidate.invariant k l x

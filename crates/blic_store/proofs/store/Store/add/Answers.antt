@@ -1,8 +1,6 @@
-use Rattle.std.proofs.Common.{arith, ◌≡◌, ◌≢◌, ◌+◌, ◌<◌, ◌≤◌, ℕ, List, [], ◌∷◌, ◌++◌, length, map, sym, ◌∙◌, ap, subst}
-use Rattle.blic_store.specs.declared.decision.Decision.{Decision}
+use Rattle.std.proofs.Common.{arith, ◌≡◌, ◌≢◌, ◌<◌, ℕ, [], ◌∷◌, ◌++◌, length, sym, ◌∙◌, ap, subst}
 use Rattle.blic_store.specs.Diagram.{decision_at}
 use Rattle.blic_store.specs.Canonical.{IsPlaced}
-use Rattle.blic_store.specs.Store.{IsStore, hash_of}
 use Rattle.blic_store.proofs.Made.{on_ok, store_more}
 use Rattle.blic_store.proofs.store.Store.add.Goals as goal
 

@@ -1,9 +1,7 @@
-use Rattle.std.proofs.Common.{arith, ◌≡◌, ◌≢◌, ◌<◌, ◌+◌, length, ap, sym, ◌∙◌, subst, List}
+use Rattle.std.proofs.Common.{arith, ◌≡◌, ap, sym, ◌∙◌, subst}
 use Rattle.std.specs.Prelude.{Some}
 use Rattle.std.proofs.lemmas.List.{get_or_read}
-use Rattle.blic_store.specs.declared.decision.Decision.{Decision}
 use Rattle.blic_store.specs.Diagram.{decision_at}
-use Rattle.blic_store.specs.Store.{hash_of}
 use Rattle.blic_store.proofs.Candidates.{IsCandidate, candidate_newest, candidate_older, unequal_test}
 use Rattle.blic_store.proofs.store.Store.find.Goals as goal
 

@@ -1,7 +1,3 @@
-use Rattle.std.proofs.Common.{ℕ, ◌≡◌, ◌<◌, ◌≤◌, ◌+◌, length, List}
-use Rattle.std.specs.Prelude.{Option, Some, None}
-use Rattle.blic_store.specs.Diagram.{decision_at}
-use Rattle.blic_store.specs.Store.{hash_of}
 use Rattle.blic_store.proofs.Candidates.{IsCandidate, steps_left}
 use Rattle.blic_store.proofs.store.Store.find.Given as goal
 

@@ -1,7 +1,5 @@
-use Rattle.std.proofs.Common.{arith, ◌≡◌, ◌≢◌, ◌+◌, ◌-◌, ◌^◌, ◌<◌, ◌≤◌, ℕ, List, [], ◌∷◌, ◌++◌, length, sym, ◌∙◌, ap, subst}
+use Rattle.std.proofs.Common.{arith, length, sym, ◌∙◌, ap}
 use Rattle.blic_store.specs.declared.decision.Decision.{Decision}
-use Rattle.blic_store.specs.Diagram.{decision_at}
-use Rattle.blic_store.specs.Canonical.{IsCanonical, IsPlaced}
 use Rattle.blic_store.proofs.Made.{answers_found, answers_if_ok, full_new, placed_made, unequal_numbers}
 use Rattle.blic_store.proofs.store.Store.make.Goals as goal
 

@@ -1,4 +1,4 @@
-use Rattle.std.proofs.Common.{arith, ◌≡◌, ◌<◌, List, length, get_or, map, subst, ap, ◌∙◌}
+use Rattle.std.proofs.Common.{arith, ◌≡◌, length, get_or, map, subst, ap, ◌∙◌}
 use Rattle.std.specs.Prelude.{IfSome, IfNone}
 use Rattle.std.proofs.lemmas.List.{get_or_read}
 use Rattle.blic_store.specs.declared.unique_table.Link.{Link}
