@@ -1,46 +1,79 @@
--- The table of what parts became, with one entry more.
-use Rattle.std.proofs.Common.{arith, ℕ, ◌+◌, ◌-◌, ◌*◌, ◌<◌, ◌≤◌, ◌≡◌, refl, sym, ◌∙◌, ap, [], length, false, true}
-use Rattle.std.specs.Prelude.{Option, Some, None, Result, Ok, Err, IfOk, IsSome, nat_eq, if◌then◌else◌, is_some}
+-- The table of what parts became, with one part more.
+use Rattle.std.proofs.Common.{arith, ℕ, ◌+◌, ◌-◌, ◌*◌, ◌<◌, ◌≤◌, ◌≡◌, ◌≢◌, refl, sym, ◌∙◌, ap, ◌⊎◌, inl, inr, [], ◌∷◌, length, false, true}
+use Rattle.std.specs.Prelude.{Result, Ok, Err, if◌then◌else◌}
 use Rattle.std.specs.Result.{is_err, is_ok}
-use Rattle.std.specs.HashMap.{HashMap, get, hash_map_len, keys, IsUnique, Updates}
-use Rattle.std.specs.Map.{lookup}
-use Rattle.std.proofs.lemmas.Bool.{ne_eqb}
-use Rattle.std.proofs.lemmas.List.{length-map}
-use Rattle.std.proofs.lemmas.Map.Steps.{length-le_from_distinct_below}
-use Rattle.std.proofs.lemmas.Map.Views.{Contains-from_any, IsSome-lookup_from_Contains, exact_unsigned_eq}
-use Rattle.std.specs.Cmp.{nat_eq_equiv}
+use Rattle.std.proofs.lemmas.Bool.{cases_lt}
+use Rattle.std.proofs.lemmas.List.{get_or_append_left, get_or_push, length_push}
 use Rattle.std.proofs.Math.Numerals.{suc-eq-add-one}
 use Rattle.std.proofs.Math.Nat.{suc-mul}
-use Rattle.blic_apply.proofs.Walk.{IsEntered}
+use Rattle.blic_store.proofs.Pigeonhole.{le_from_images}
+use Rattle.blic_apply.specs.PartTable.{HasBecome, IsNew, Table, answer_at, part_at, with_part}
 
-pub entered : {S : Type 0} (m n : HashMap ℕ ℕ S) (at made : ℕ) → Updates nat_eq m n at (Some made) → IsEntered (get nat_eq m) (get nat_eq n) at made
-entered m n at made u = record { here = u.1; others = λ q ne. u.2 q (ne_eqb at q (λ e. ne (sym e))) }
+-- a table has an answer for each part, and each part once
+pub record IsTable (t : Table) : Type 0 where
+  pub same_length : length t.parts ≡ length t.answers
+  pub once : (j k : ℕ) → j < k → k < length t.parts → part_at t j ≢ part_at t k
 
--- A new entry is one entry more.
-pub one_more : {E : Type 0} (r : Result (Option ℕ) E) (found : Option ℕ) (n m : ℕ) → false ≡ is_err r → IfOk r (λ o. o ≡ found) → IfOk r (λ o. n ≡ m + (if is_some o then 0 else 1)) → found ≡ None → n ≡ m + 1
-one_more (Ok o) found n m e f l none = l ∙ ap (λ z. m + (if is_some z then 0 else 1)) (f ∙ none)
-one_more (Err x) found n m e f l none = absurd (differ e)
-  where
-    differ : false ≡ true → ⊥
-    differ q = cc
+part_front : (t : Table) (part answer k : ℕ) → k < length t.parts → part_at (with_part t part answer) k ≡ part_at t k
+part_front t part answer k l = get_or_append_left t.parts (part ∷ []) 0 k l
 
-some_is : (o : Option ℕ) → IsSome o → (s : ℕ) × (o ≡ Some s)
-some_is (Some s) h = (s, refl)
-some_is None h = absurd (differ h)
-  where
-    differ : IsSome {T = ℕ} None → ⊥
-    differ q = cc
+part_last : (t : Table) (part answer k : ℕ) → k ≡ length t.parts → part_at (with_part t part answer) k ≡ part
+part_last t part answer k e = ap (λ z. part_at (with_part t part answer) z) e ∙ get_or_push t.parts part 0 (length t.parts) refl
 
-pub none_yet : {S : Type 0} (m : HashMap ℕ ℕ S) → m.entries ≡ [] → (r : ℕ) → get nat_eq m r ≡ None
-none_yet m e r = ap (lookup (nat_eq r)) e
+-- What the longer table has: the new part, or what the table had.
+pub become_push : (t : Table) (part answer r s : ℕ) → IsTable t → HasBecome (with_part t part answer) r s → ((r ≡ part) × (answer ≡ s)) ⊎ HasBecome t r s
+become_push t part answer r s i b =
+    let len = length_push t.parts part in
+    let range = b.in_range in
+    let same = i.same_length in
+    elim (cases_lt b.place (length t.parts)) [
+      | inl l ↦ inr (record {
+        place = b.place;
+        in_range = l;
+        part = sym (part_front t part answer b.place l) ∙ b.part;
+        answer = sym (get_or_append_left t.answers (answer ∷ []) 0 b.place (omega arith)) ∙ b.answer;
+      })
+      | inr l ↦ (let last : b.place ≡ length t.parts = omega arith in
+          let last_answer : b.place ≡ length t.answers = omega arith in
+          inl (
+            sym b.part ∙ part_last t part answer b.place last,
+            sym (ap (λ z. answer_at (with_part t part answer) z) last_answer ∙ get_or_push t.answers answer 0 (length t.answers) refl) ∙ b.answer,
+          ))
+    ]
 
--- Entries of refs up to a are at most a + 1.
-pub few : {S : Type 0} (m : HashMap ℕ ℕ S) (a : ℕ) → IsUnique nat_eq m → ((q s : ℕ) → get nat_eq m q ≡ Some s → q ≤ a) → hash_map_len m ≤ a + 1
-few m a u below =
-    let le : length (keys m) ≤ a + 1 = length-le_from_distinct_below (keys m) (a + 1) u (λ q e.
-    let w = some_is (get nat_eq m q) (IsSome-lookup_from_Contains nat_eq_equiv q m.entries (Contains-from_any exact_unsigned_eq q (keys m) e)) in
-    let b = below q w.0 w.1 in omega arith) in
-    omega (arith, length-map m.entries (λ (e : ℕ × ℕ). e.0))
+-- What it lacks: all that the table lacks, but the new part.
+pub new_kept : (t : Table) (part answer r : ℕ) → IsNew t r → r ≢ part → IsNew (with_part t part answer) r
+new_kept t part answer r n ne k l e =
+    let len = length_push t.parts part in
+    elim (cases_lt k (length t.parts)) [
+      | inl m ↦ n k m (sym (part_front t part answer k m) ∙ e)
+      | inr m ↦ ne (sym e ∙ part_last t part answer k (omega arith))
+    ]
+
+pub push_table : (t : Table) (part answer : ℕ) → IsTable t → IsNew t part → IsTable (with_part t part answer)
+push_table t part answer i n = record {
+  same_length =
+      let a = length_push t.parts part in
+      let b = length_push t.answers answer in
+      let same = i.same_length in
+      omega arith;
+  once = λ j k l m e.
+      let len = length_push t.parts part in
+      elim (cases_lt k (length t.parts)) [
+        | inl f ↦ i.once j k l f (sym (part_front t part answer j (omega arith)) ∙ (e ∙ part_front t part answer k f))
+        | inr f ↦ n j (omega arith) (sym (part_front t part answer j (omega arith)) ∙ (e ∙ part_last t part answer k (omega arith)))
+      ];
+}
+
+-- Parts up to a are at most a + 1.
+pub few : (t : Table) (a : ℕ) → IsTable t → ((r s : ℕ) → HasBecome t r s → r ≤ a) → length t.parts ≤ a + 1
+few t a i below =
+    le_from_images (length t.parts) (a + 1) (λ k y. part_at t k ≡ y)
+    (λ k l. record { place = part_at t k; below = let w = below (part_at t k) (answer_at t k) (record { place = k; in_range = l; part = refl; answer = refl }) in omega arith; related = refl })
+    (λ j k y l m e f. i.once j k l m (e ∙ sym f))
+
+pub longer : (t next : Table) (part answer : ℕ) → next ≡ with_part t part answer → length next.parts ≡ length t.parts + 1
+longer t next part answer e = ap (λ (z : Table). length z.parts) e ∙ length_push t.parts part
 
 -- The walk's measure: an entry more counts for more than any ref up to a.
 pub smaller : (a m n at above : ℕ) → n ≡ m + 1 → n ≤ a + 1 → above ≤ a → (a + 1 - n) * (a + 1) + above < (a + 1 - m) * (a + 1) + at

@@ -1,6 +1,5 @@
 -- The walk over the parts of a function that is changed.
 use Rattle.std.proofs.Common.{arith, ℕ, zero, suc, ◌+◌, ◌-◌, ◌<◌, ◌≤◌, ◌≡◌, ◌≢◌, refl, sym, ◌∙◌, ap, subst, inl, inr, List, [], ◌∷◌, ◌++◌, length, get_or, Bool, false, true}
-use Rattle.std.specs.Prelude.{Option, Some, None}
 use Rattle.std.proofs.lemmas.Bool.{cases_eq, cases_lt}
 use Rattle.std.proofs.lemmas.List.{get_or_append_left, length_push}
 use Rattle.std.proofs.Math.Seq.{get_or-append_seam}
@@ -16,7 +15,9 @@ use Rattle.blic_store.proofs.Parts.{adds_more, function-kept, no_shorter}
 use Rattle.blic_store.proofs.Under.{pad_one, under_cofactor, under_none}
 use Rattle.blic_store.proofs.Made.{adds_none}
 use Rattle.blic_apply.specs.Changing.{HasChanged, IsChanged, IsMissing, IsSideOf, IsUnsettled, LeavesOpen, changed}
+use Rattle.blic_apply.specs.PartTable.{HasBecome, IsNew, Table, with_part}
 use Rattle.blic_apply.specs.declared.change.Change.{Change}
+use Rattle.blic_apply.proofs.Table.{IsTable, become_push, new_kept, push_table}
 use Rattle.blic_apply.proofs.Changing.{IsReady, changed_after, changed_same, ready_is}
 
 -- a part of ref a's function, by the bits above its level
@@ -56,10 +57,10 @@ changed_part change nodes a at g x u e = (
 )
 
 -- a part that waits to be changed
-pub record IsPending (change : Change) (nodes : List Decision) (table : ℕ → Option ℕ) (a r : ℕ) : Type 0 where
+pub record IsPending (change : Change) (nodes : List Decision) (table : Table) (a r : ℕ) : Type 0 where
   pub reached : IsReached nodes a r
   pub unsettled : IsUnsettled change nodes r
-  pub unmade : table r ≡ None
+  pub unmade : IsNew table r
 
 -- what the table has of a part
 pub record IsMade (change : Change) (nodes : List Decision) (a r s : ℕ) : Type 0 where
@@ -67,28 +68,30 @@ pub record IsMade (change : Change) (nodes : List Decision) (a r s : ℕ) : Type
   pub changed : IsChanged change nodes r s
 
 -- What is known in a walk: `path` leads from a to the part in hand, each one a part of the one before.
-pub record IsWalk (change : Change) (old now : List Decision) (a : ℕ) (path : List ℕ) (table : ℕ → Option ℕ) : Type 0 where
+pub record IsWalk (change : Change) (old now : List Decision) (a : ℕ) (path : List ℕ) (table : Table) : Type 0 where
   pub a_held : IsRef old a
   pub adds : Adds (changed change (function old a)) old now
   pub root : get_or path 0 0 ≡ a
   pub falling : (j k : ℕ) → j < k → k < length path → get_or path k 0 < get_or path j 0
   pub pending : (k : ℕ) → k < length path → IsPending change now table a (get_or path k 0)
-  pub made : (r s : ℕ) → table r ≡ Some s → IsMade change now a r s
+  pub made : (r s : ℕ) → HasBecome table r s → IsMade change now a r s
+  pub entered : IsTable table
 
 -- The walk's beginning.
-pub walk_first : (change : Change) (old : List Decision) (a : ℕ) (table : ℕ → Option ℕ) → IsCanonical old → IsRef old a → IsUnsettled change old a → ((r : ℕ) → table r ≡ None) → IsWalk change old old a (a ∷ []) table
-walk_first change old a table c h u none = record {
+first : (change : Change) (old : List Decision) (a : ℕ) → IsCanonical old → IsRef old a → IsUnsettled change old a → IsWalk change old old a (a ∷ []) (record { parts = []; answers = [] })
+first change old a c h u = record {
   a_held = h;
   adds = adds_none (changed change (function old a)) old c;
   root = refl;
   falling = λ j k l m. absurd (omega arith);
-  pending = λ k l. subst (IsPending change old table a) (let e : k ≡ 0 = omega arith in sym (ap (λ z. get_or (a ∷ []) z 0) e))
-      (record { reached = ([], under_none old a h); unsettled = u; unmade = none a });
-  made = λ r s e. absurd (differ (sym (none r) ∙ e));
+  pending = λ k l. subst (IsPending change old (record { parts = []; answers = [] }) a) (let e : k ≡ 0 = omega arith in sym (ap (λ z. get_or (a ∷ []) z 0) e))
+      (record { reached = ([], under_none old a h); unsettled = u; unmade = λ j l. absurd (omega arith) });
+  made = λ r s e. let none = e.in_range in absurd (omega arith);
+  entered = record { same_length = refl; once = λ j k l m. absurd (omega arith) };
 }
-  where
-    differ : {s : ℕ} → None ≡ Some s → ⊥
-    differ q = cc
+
+pub walk_first : (change : Change) (old : List Decision) (a : ℕ) (table : Table) → IsCanonical old → IsRef old a → IsUnsettled change old a → table ≡ record { parts = []; answers = [] } → IsWalk change old old a (a ∷ []) table
+walk_first change old a table c h u none = subst (IsWalk change old old a (a ∷ [])) (sym none) (first change old a c h u)
 
 -- the last of a path
 at_last : (xs : List ℕ) (y k : ℕ) → k ≡ length xs → get_or (xs ++ y ∷ []) k 0 ≡ y
@@ -98,28 +101,28 @@ at_front : (xs : List ℕ) (y k : ℕ) → k < length xs → get_or (xs ++ y ∷
 at_front xs y k l = get_or_append_left xs (y ∷ []) 0 k l
 
 -- The part in hand.
-pub in_hand : (change : Change) (old now : List Decision) (a : ℕ) (xs : List ℕ) (at : ℕ) (table : ℕ → Option ℕ) → IsWalk change old now a (xs ++ at ∷ []) table → IsPending change now table a at
+pub in_hand : (change : Change) (old now : List Decision) (a : ℕ) (xs : List ℕ) (at : ℕ) (table : Table) → IsWalk change old now a (xs ++ at ∷ []) table → IsPending change now table a at
 in_hand change old now a xs at table w =
     let len = length_push xs at in
     subst (IsPending change now table a) (at_last xs at (length xs) refl) (w.pending (length xs) (omega arith))
 
 -- Each part of the path is at most a.
-pub at_most : (change : Change) (old now : List Decision) (a : ℕ) (path : List ℕ) (table : ℕ → Option ℕ) → IsWalk change old now a path table → (k : ℕ) → k < length path → get_or path k 0 ≤ a
+pub at_most : (change : Change) (old now : List Decision) (a : ℕ) (path : List ℕ) (table : Table) → IsWalk change old now a path table → (k : ℕ) → k < length path → get_or path k 0 ≤ a
 at_most change old now a path table w k l = elim (cases_eq k 0) [
   | inl e ↦ (let r = w.root in let q : get_or path k 0 ≡ get_or path 0 0 = ap (λ z. get_or path z 0) e in omega arith)
   | inr n ↦ (let r = w.root in let ne : k ≢ 0 = n in let f = w.falling 0 k (omega arith) l in omega arith)
 ]
 
-pub in_hand_at_most : (change : Change) (old now : List Decision) (a : ℕ) (xs : List ℕ) (at : ℕ) (table : ℕ → Option ℕ) → IsWalk change old now a (xs ++ at ∷ []) table → at ≤ a
+pub in_hand_at_most : (change : Change) (old now : List Decision) (a : ℕ) (xs : List ℕ) (at : ℕ) (table : Table) → IsWalk change old now a (xs ++ at ∷ []) table → at ≤ a
 in_hand_at_most change old now a xs at table w =
     let len = length_push xs at in
     omega (arith, at_most change old now a (xs ++ at ∷ []) table w (length xs) (omega arith), at_last xs at (length xs) refl)
 
-pub has_changed : (change : Change) (old now : List Decision) (a : ℕ) (path : List ℕ) (table : ℕ → Option ℕ) → IsWalk change old now a path table → HasChanged change now table
+pub has_changed : (change : Change) (old now : List Decision) (a : ℕ) (path : List ℕ) (table : Table) → IsWalk change old now a path table → HasChanged change now table
 has_changed change old now a path table w r s e = (w.made r s e).changed
 
 -- A side that is missing comes next.
-pub walk_down : (change : Change) (old now : List Decision) (a : ℕ) (xs : List ℕ) (at r : ℕ) (table : ℕ → Option ℕ) → IsWalk change old now a (xs ++ at ∷ []) table → IsMissing change now table at r
+pub walk_down : (change : Change) (old now : List Decision) (a : ℕ) (xs : List ℕ) (at r : ℕ) (table : Table) → IsWalk change old now a (xs ++ at ∷ []) table → IsMissing change now table at r
     → IsWalk change old now a ((xs ++ at ∷ []) ++ r ∷ []) table
 walk_down change old now a xs at r table w m =
     let path = xs ++ at ∷ [] in
@@ -145,6 +148,7 @@ walk_down change old now a xs at r table w m =
             (record { reached = reached_side now c a at r here.unsettled.inner here.reached m.side; unsettled = m.unsettled; unmade = m.unmade })
       ];
       made = w.made;
+      entered = w.entered;
     }
 
 -- What the store keeps where decisions are added.
@@ -178,7 +182,7 @@ unsettled_kept change f now new d r h u = record { inner = u.inner; open_level =
 abbrev pub choice_of : List Decision → ℕ → ℕ → ℕ → Function
 choice_of now level low high = choice level (function now low) (function now high)
 
-pub is_ready : (change : Change) (old now : List Decision) (a : ℕ) (xs : List ℕ) (at low high : ℕ) (table : ℕ → Option ℕ) → IsWalk change old now a (xs ++ at ∷ []) table
+pub is_ready : (change : Change) (old now : List Decision) (a : ℕ) (xs : List ℕ) (at low high : ℕ) (table : Table) → IsWalk change old now a (xs ++ at ∷ []) table
     → IsChanged change now (low_of now at) low × IsChanged change now (high_of now at) high → IsReady change now at low high
 is_ready change old now a xs at low high table w r =
     let here = in_hand change old now a xs at table w in
@@ -188,7 +192,7 @@ asked_is : (change : Change) (now : List Decision) (at level low high : ℕ) →
 asked_is change now at level low high c e w p = ap (λ z. choice_of now z low high p) e ∙ ready_is change now at low high c w p
 
 -- What the store adds then are parts of the changed function, also where `make` found it full.
-pub walk_adds : (change : Change) (old now new : List Decision) (a : ℕ) (xs : List ℕ) (at level low high : ℕ) (table : ℕ → Option ℕ) → IsWalk change old now a (xs ++ at ∷ []) table
+pub walk_adds : (change : Change) (old now new : List Decision) (a : ℕ) (xs : List ℕ) (at level low high : ℕ) (table : Table) → IsWalk change old now a (xs ++ at ∷ []) table
     → level ≡ level_of now at → IsReady change now at low high → Adds (choice_of now level low high) now new → Adds (changed change (function old a)) old new
 walk_adds change old now new a xs at level low high table w e r d =
     let here = in_hand change old now a xs at table w in
@@ -199,7 +203,7 @@ walk_adds change old now new a xs at level low high table w e r d =
     (subst (λ z. IsPart z g) kept (changed_part change now a at g here.reached here.unsettled (asked_is change now at level low high w.adds.canonical e r))) d
 
 -- The part in hand is made.
-pub walk_made : (change : Change) (old : List Decision) (now new : Diagrams) (a : ℕ) (xs : List ℕ) (at level low high made : ℕ) (table : ℕ → Option ℕ) → IsWalk change old now.nodes a (xs ++ at ∷ []) table
+pub walk_made : (change : Change) (old : List Decision) (now new : Diagrams) (a : ℕ) (xs : List ℕ) (at level low high made : ℕ) (table : Table) → IsWalk change old now.nodes a (xs ++ at ∷ []) table
     → level ≡ level_of now.nodes at → IsReady change now.nodes at low high → Answers (choice_of now.nodes level low high) now new made → IsChanged change new.nodes at made
 walk_made change old now new a xs at level low high made table w e r m = record {
   held = m.held;
@@ -208,7 +212,7 @@ walk_made change old now new a xs at level low high made table w e r m = record 
 }
 
 -- It was the last one: the answer.
-pub walk_answers : (change : Change) (old now new : Diagrams) (a : ℕ) (at level low high made : ℕ) (table : ℕ → Option ℕ) → IsWalk change old.nodes now.nodes a (at ∷ []) table
+pub walk_answers : (change : Change) (old now new : Diagrams) (a : ℕ) (at level low high made : ℕ) (table : Table) → IsWalk change old.nodes now.nodes a (at ∷ []) table
     → level ≡ level_of now.nodes at → IsReady change now.nodes at low high → now.limit ≡ old.limit → Answers (choice_of now.nodes level low high) now new made → Answers (changed change (function old.nodes a)) old new made
 walk_answers change old now new a at level low high made table w e r l m =
     let d = walk_adds change old.nodes now.nodes new.nodes a [] at level low high table w e r m.adds in
@@ -220,16 +224,11 @@ walk_answers change old now new a at level low high made table w e r l m =
       value = λ p. i.value p ∙ (ap (λ z. changed change (function new.nodes z) p) w.root ∙ ap (λ g. changed change g p) (function-kept (changed change (function old.nodes a)) old.nodes new.nodes d a w.a_held));
     }
 
--- the table with one ref more
-pub record IsEntered (table new : ℕ → Option ℕ) (at made : ℕ) : Type 0 where
-  pub here : new at ≡ Some made
-  pub others : (q : ℕ) → (q ≡ at → ⊥) → new q ≡ table q
-
 -- Else the part that waited for it comes next.
-pub walk_up : (change : Change) (old : List Decision) (now new : Diagrams) (a : ℕ) (xs : List ℕ) (at level low high made : ℕ) (table next : ℕ → Option ℕ) → IsWalk change old now.nodes a (xs ++ at ∷ []) table
-    → level ≡ level_of now.nodes at → IsReady change now.nodes at low high → Answers (choice_of now.nodes level low high) now new made → 0 < length xs → IsEntered table next at made
-    → IsWalk change old new.nodes a xs next
-walk_up change old now new a xs at level low high made table next w e r m some entered =
+pub walk_up : (change : Change) (old : List Decision) (now new : Diagrams) (a : ℕ) (xs : List ℕ) (at level low high made : ℕ) (table : Table) → IsWalk change old now.nodes a (xs ++ at ∷ []) table
+    → level ≡ level_of now.nodes at → IsReady change now.nodes at low high → Answers (choice_of now.nodes level low high) now new made → 0 < length xs
+    → IsWalk change old new.nodes a xs (with_part table at made)
+walk_up change old now new a xs at level low high made table w e r m some =
     let g = choice_of now.nodes level low high in
     let len = length_push xs at in
     let a_now : IsRef now.nodes a = let l = no_shorter (changed change (function old a)) old now.nodes w.adds in let h = w.a_held in omega arith in
@@ -244,16 +243,16 @@ walk_up change old now new a xs at level low high made table next w e r m some e
           record {
             reached = reached_kept g now.nodes new.nodes m.adds a (get_or xs k 0) a_now p.reached;
             unsettled = unsettled_kept change g now.nodes new.nodes m.adds (get_or xs k 0) p.reached.1.held p.unsettled;
-            unmade = entered.others (get_or xs k 0) apart ∙ p.unmade;
+            unmade = new_kept table at made (get_or xs k 0) p.unmade apart;
           };
-      made = λ q s found. elim (cases_eq q at) [
-        | inl eq ↦ (let same : made ≡ s = let t : Some made ≡ Some s = sym entered.here ∙ (sym (ap next eq) ∙ found) in cc in
-            record {
-              in_range = let b = in_hand_at_most change old now.nodes a xs at table w in omega arith;
-              changed = subst (IsChanged change new.nodes q) same (subst (λ z. IsChanged change new.nodes z made) (sym eq) (walk_made change old now new a xs at level low high made table w e r m));
-            })
-        | inr ne ↦ (let old_made = w.made q s (sym (entered.others q ne) ∙ found) in
+      made = λ q s found. elim (become_push table at made q s w.entered found) [
+        | inl here ↦ record {
+          in_range = let b = in_hand_at_most change old now.nodes a xs at table w in let e = here.0 in omega arith;
+          changed = subst (IsChanged change new.nodes q) here.1 (subst (λ z. IsChanged change new.nodes z made) (sym here.0) (walk_made change old now new a xs at level low high made table w e r m));
+        }
+        | inr before ↦ (let old_made = w.made q s before in
             let b = old_made.in_range in
             record { in_range = b; changed = changed_kept change g now.nodes new.nodes m.adds q s (omega arith) old_made.changed })
       ];
+      entered = push_table table at made w.entered (in_hand change old now.nodes a xs at table w).unmade;
     }

@@ -3,6 +3,7 @@
 
 mod change;
 mod operation;
+mod part_table;
 mod rewriting;
 
 pub use operation::{Op, combine, fix, negate};

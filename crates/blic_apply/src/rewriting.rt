@@ -1,14 +1,14 @@
 // A function changed at each of its parts.
-ghost use Rattle.std.specs.Prelude.{◌≡◌, ◌≤◌, nat_eq, Err, IfNone, IfOk, IfSome, None, OnErr};
-ghost use Rattle.std.specs.HashMap.{get};
+ghost use Rattle.std.specs.Prelude.{◌≡◌, ◌≤◌, Err, IfNone, IfOk, IfSome, OnErr};
 ghost use Rattle.blic_store.specs.Diagram.{IsRef, function};
 ghost use Rattle.blic_store.specs.Growth.{Adds, Answers, PassesLimit};
 ghost use Rattle.blic_apply.specs.Changing.{HasChanged, IsChanged, IsStep, IsUnsettled, changed};
+ghost use Rattle.blic_apply.specs.PartTable.{IsNew};
 
 use crate::change::Change;
+use crate::part_table::PartTable;
 use blic_store::{Ref, Store, StoreError};
 use std::alloc::Global;
-use std::collections::HashMap;
 use std::vec::Vec;
 
 /// What a part of the function waits for.
@@ -34,7 +34,9 @@ pub fn rewrite(alloc: Global, store: &mut Store, change: Change, a: Ref) -> Resu
     if let Some(answer) = change.settled(store, a) {
         return Ok(answer);
     }
-    let mut made: HashMap<u32, Ref> = HashMap::new(alloc);
+    let Ok(mut made) = PartTable::new(alloc) else {
+        return Err(StoreError::NoMem);
+    };
     let mut waiting: Vec<Ref> = Vec::new(alloc);
     let mut at = a;
     'up: loop {
@@ -50,7 +52,7 @@ pub fn rewrite(alloc: Global, store: &mut Store, change: Change, a: Ref) -> Resu
                 let Some(above) = waiting.pop() else {
                     return Ok(answer);
                 };
-                if made.insert(at.number(), answer).is_err() {
+                if made.enter(at, answer).is_err() {
                     return Err(StoreError::NoMem);
                 }
                 at = above;
@@ -60,11 +62,11 @@ pub fn rewrite(alloc: Global, store: &mut Store, change: Change, a: Ref) -> Resu
 }
 
 // What the part waits for, where some parts are made.
-fn next_step(change: Change, store: &Store, made: &HashMap<u32, Ref>, at: Ref) -> Step
+fn next_step(change: Change, store: &Store, made: &PartTable, at: Ref) -> Step
     requires held { IsRef store.now.nodes at }
     requires inner { 2 ≤ at }
-    requires made { HasChanged change store.now.nodes (get nat_eq made.now) }
-    ensures { IsStep change store.now.nodes (get nat_eq made.now) at result }
+    requires made { HasChanged change store.now.nodes made.now }
+    ensures { IsStep change store.now.nodes made.now at result }
 {
     store.canonical_law();
     let low = store.low(at);
@@ -79,15 +81,15 @@ fn next_step(change: Change, store: &Store, made: &HashMap<u32, Ref>, at: Ref) -
 }
 
 // What a part became, if it is settled or made.
-fn answer(change: Change, store: &Store, made: &HashMap<u32, Ref>, r: Ref) -> Option<Ref>
+fn answer(change: Change, store: &Store, made: &PartTable, r: Ref) -> Option<Ref>
     requires held { IsRef store.now.nodes r }
-    requires made { HasChanged change store.now.nodes (get nat_eq made.now) }
+    requires made { HasChanged change store.now.nodes made.now }
     ensures some { IfSome result (IsChanged change store.now.nodes r) }
     ensures unsettled { IfNone result (IsUnsettled change store.now.nodes r) }
-    ensures unmade { IfNone result (get nat_eq made.now r ≡ None) }
+    ensures unmade { IfNone result (IsNew made.now r) }
 {
     if let Some(answer) = change.settled(store, r) {
         return Some(answer);
     }
-    made.get(&r.number()).copied()
+    made.get(r)
 }

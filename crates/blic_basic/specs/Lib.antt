@@ -2,3 +2,5 @@ pub mod Memory
 pub mod Named
 pub mod Opening
 pub mod Outside
+pub mod Seeding
+pub mod Watching

@@ -1,4 +1,4 @@
--- What sources, sinks and files in memory hold.
+-- What sources, sinks, files and seeds in memory hold.
 use Rattle.std.specs.Prelude.{ℕ, List, []}
 use Rattle.blic_basic.specs.Named.{NamedBytes}
 
@@ -44,3 +44,14 @@ pub record MemoryFiles : Type 0 where
 -- files that were not called yet
 abbrev pub new_files : List NamedBytes → ℕ → List ℕ → List ℕ → ℕ → MemoryFiles
 new_files files most failing takes_failing room = record { files = files; most = most; failing = failing; takes_failing = takes_failing; room = room; calls = 0; faults = 0 }
+
+-- seeds: those that are left, the numbers of the calls that are to fail, the calls and the faults
+pub record MemorySeeds : Type 0 where
+  pub left : List (List ℕ)
+  pub failing : List ℕ
+  pub calls : ℕ
+  pub faults : ℕ
+
+-- seeds that were not asked for yet
+abbrev pub new_seeds : List (List ℕ) → List ℕ → MemorySeeds
+new_seeds seeds failing = record { left = seeds; failing = failing; calls = 0; faults = 0 }

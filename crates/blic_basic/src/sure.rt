@@ -1,7 +1,9 @@
 // Forms that never fail.
 ghost use Rattle.std.specs.Prelude.{◌≡◌, ◌<◌, Some, None, length, min};
+ghost use Rattle.blic_basic.specs.Seeding.{Seeds, SeedCounts};
 ghost use Rattle.blic_basic.specs.Outside.{Takes, TakeCounts, IfGot, Gives, GiveCounts};
 
+use crate::entropy::{Entropy, Seeded};
 use crate::files::{Files, Opened};
 use crate::piece::copy_front;
 use crate::sink::{Given, Sink};
@@ -114,5 +116,46 @@ impl Sink for SureSink {
         ensures whole { result ≡ Given.Took (length piece.now) }
     {
         Given::Took(piece.len())
+    }
+}
+
+/// The same seed at each call. Contracts see the seed.
+#[derive(Clone, Copy, Debug, PartialEq, Eq)]
+pub struct SureEntropy {
+    seed: [u8; 32],
+}
+
+impl Model for SureEntropy {
+    ghost use Rattle.std.specs.Prelude.{List, ℕ};
+
+    ghost Value = { List ℕ };
+
+    ghost view = { λ e. e.seed };
+
+    ghost inverse = { λ s. record { seed = s } };
+}
+
+impl SureEntropy {
+    /// Each call gives this seed.
+    pub fn new(seed: [u8; 32]) -> SureEntropy
+        ensures { result ≡ seed }
+    {
+        SureEntropy { seed }
+    }
+}
+
+impl Entropy for SureEntropy {
+    ghost seeds = { λ seed. Some (λ n. Some seed) };
+
+    ghost faults = { λ _. 0 };
+
+    /// Gives the seed.
+    fn seed(&mut self) -> Seeded
+        ensures seed { Seeds (Some (λ n. Some self.old)) (Some (λ n. Some self.new)) result }
+        ensures cause { SeedCounts 0 0 result }
+        ensures same { self.new ≡ self.old }
+        ensures given { result ≡ Seeded.Seed self.old }
+    {
+        Seeded::Seed(self.seed)
     }
 }

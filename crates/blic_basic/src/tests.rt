@@ -1,7 +1,8 @@
 // The forms in memory at listed calls, pieces and rooms; the forms that never fail; the system.
 use crate::{
-    Files, Given, MemFile, MemFiles, MemSink, MemSource, Opened, RealFiles, RealSource, Sink,
-    Source, StdoutSink, Steps, SureFiles, SureSink, Taken, Wrote, write_all_counted,
+    Bend, BendWatch, Entropy, Files, Given, MemEntropy, MemFile, MemFiles, MemSink, MemSource,
+    MemWatch, NoWatch, Opened, RandomFile, RealFiles, RealSource, Seeded, Sink, Source, StdoutSink,
+    Steps, SureEntropy, SureFiles, SureSink, Taken, Watch, Wrote, write_all_counted,
 };
 use std::alloc::{AllocError, Global};
 use std::marker::Brand;
@@ -179,6 +180,73 @@ fn a_writer_that_takes_no_more_is_a_fault(rt: HostRuntime) {
     let mut full = StdoutSink::new(room.as_mut_slice());
     assert_eq!(rt; write_all_counted(&mut full, b"hello"), Wrote::Failed(3));
     assert_eq!(rt; full.faults(), 1);
+}
+
+#[test]
+fn seeds_come_in_order_and_fail_at_the_listed_calls(rt: HostRuntime) -> Result<(), Fail> {
+    let seeds = vec![in rt.alloc(); [1; 32], [2; 32]]?;
+    let failing = vec![in rt.alloc(); 1]?;
+    let mut entropy = MemEntropy::new(seeds, failing);
+    let rows = [
+        Seeded::Seed([1; 32]),
+        Seeded::Failed,
+        Seeded::Seed([2; 32]),
+        Seeded::Failed,
+    ];
+    for row in rows {
+        assert_eq!(rt; entropy.seed(), row);
+    }
+    assert_eq!(rt; entropy.faults(), 2);
+    let mut sure = SureEntropy::new([7; 32]);
+    assert_eq!(rt; sure.seed(), Seeded::Seed([7; 32]));
+    assert_eq!(rt; sure.seed(), Seeded::Seed([7; 32]));
+    Ok(())
+}
+
+#[test]
+fn the_systems_seeds_differ(rt: HostRuntime) {
+    let mut entropy = RandomFile::new(&rt);
+    let first = entropy.seed();
+    assert!(rt; first != Seeded::Failed);
+    assert!(rt; first != entropy.seed());
+    assert_eq!(rt; entropy.faults(), 0);
+}
+
+fn passed<W: Watch>(watch: &mut W, came: [u8; 7]) -> [u8; 7] {
+    let mut frame = came;
+    watch.saw(&mut frame);
+    frame
+}
+
+#[test]
+fn a_watch_keeps_frames_and_bends_replies_alone(rt: HostRuntime) -> Result<(), Fail> {
+    let ask = [0, 0, 0, 2, 1, 8, 9];
+    let reply = [0, 0, 0, 2, 0x81, 8, 9];
+    let bend = Bend {
+        reply: 1,
+        place: 6,
+        byte: 4,
+    };
+    let bends = vec![in rt.alloc(); Bend { byte: 3, ..bend }, bend, Bend { place: 4, ..bend }]?;
+    let mut plain = MemWatch::new(rt.alloc());
+    let mut bending = BendWatch::new(rt.alloc(), bends);
+    assert_eq!(rt; passed(&mut NoWatch::new(), reply), reply);
+    let rows = [
+        (ask, ask),
+        (reply, reply),
+        (ask, ask),
+        (reply, [0, 0, 0, 2, 0x81, 8, 4]),
+        (reply, reply),
+    ];
+    for (came, left) in rows {
+        assert_eq!(rt; passed(&mut plain, came), came);
+        assert_eq!(rt; passed(&mut bending, came), left);
+    }
+    assert!(rt; plain.whole() && plain.frames() == 5);
+    assert_eq!(rt; plain.frame(3), reply.as_slice());
+    assert!(rt; bending.whole() && bending.frames() == 5);
+    assert_eq!(rt; bending.frame(3), rows[3].1.as_slice());
+    Ok(())
 }
 
 #[test]

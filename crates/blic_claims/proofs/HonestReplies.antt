@@ -1,17 +1,16 @@
 -- The honest replies of a conversation, one after another.
-use Rattle.std.proofs.Common.{arith, ℕ, ◌≡◌, ◌<◌, ◌≤◌, refl, sym, ◌∙◌, ap, List, length, get_or, Bool, true, false, eqb}
-use Rattle.blic_field.specs.Field.{modulus}
+use Rattle.std.proofs.Common.{ℕ, ◌≡◌, ◌<◌, ◌≤◌, refl, sym, ◌∙◌, ap, List, length, get_or, Bool, true, false, eqb}
 use Rattle.blic_model.specs.declared.node.Node.{Node}
-use Rattle.blic_model.specs.Circuit.{node_at, root, table, free}
+use Rattle.blic_model.specs.Circuit.{node_at, root, table}
 use Rattle.blic_model.specs.Value.{value, bit, holds}
 use Rattle.blic_model.specs.Counts.{is_binary}
 use Rattle.blic_model.proofs.Ordered.{AllOrdered}
 use Rattle.blic_model.proofs.Entries.{get-table}
 use Rattle.blic_model.proofs.BitPoints.{value_holds}
 use Rattle.blic_claims.specs.Claims.{Transcript, claims_on, node_point, zero_point}
-use Rattle.blic_claims.specs.Turns.{ForValues, turns, Reply, transcript, polys_of, values_of, no_reply, polys_number, values_number}
+use Rattle.blic_claims.specs.Turns.{ForValues, turns, Reply, transcript, values_of, no_reply, values_number}
 use Rattle.blic_claims.specs.Honest.{honest_at, honest_answer, operands}
-use Rattle.blic_claims.proofs.Turns.{polys_turn, values_turn, values_first, binary_inside}
+use Rattle.blic_claims.proofs.Turns.{values_turn, binary_inside}
 use Rattle.blic_claims.proofs.Agreement.{claims_agree}
 
 abbrev pub honest_entry : List Node → ℕ → List ℕ → ℕ → List Reply → Reply

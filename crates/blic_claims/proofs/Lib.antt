@@ -1,4 +1,6 @@
+pub mod Added
 pub mod Agreement
+pub mod AllTurns
 pub mod BelowSums
 pub mod ClaimCounts
 pub mod ClaimsCopied
@@ -14,11 +16,19 @@ pub mod HandedClaims
 pub mod HandedDown
 pub mod HandedPlaces
 pub mod Handing
+pub mod Held
+pub mod HeldKept
+pub mod HeldNodes
 pub mod HonestReplies
+pub mod KeptPoints
 pub mod LayoutRows
 pub mod LayoutSpacing
 pub mod LayoutSums
 pub mod Lists
+pub mod Pairs
+pub mod Places
+pub mod Rows
 pub mod SomeClaim
 pub mod Spacing
+pub mod Starting
 pub mod Turns

@@ -2,6 +2,7 @@ pub mod ClaimLaws
 pub mod Claims
 pub mod Counters
 pub mod Elements
+pub mod Held
 pub mod Honest
 pub mod Places
 pub mod Points

@@ -1,9 +1,9 @@
 -- Where the claims on each node are kept. The places of the claims that a parent hands down are fixed by the circuit.
-use Rattle.std.specs.Prelude.{ℕ, suc, ◌+◌, ◌*◌, ◌-◌, ◌==◌, cond, List, slice_index_or, map, length, sum_by}
+use Rattle.std.specs.Prelude.{ℕ, suc, ◌+◌, ◌*◌, ◌-◌, ◌==◌, ◌≡◌, ◌<◌, ◌≤◌, true, cond, List, slice_index_or, map, length, sum_by}
 use Rattle.blic_model.specs.declared.node.Node.{Node}
 use Rattle.blic_model.specs.declared.node.Node.TheVariants.{Const, Var, Not, Fix, And, Or}
 use Rattle.blic_model.specs.Circuit.{OrderedCircuit, node_at, root, below, free}
-use Rattle.blic_model.specs.Counts.{handed_down, claims, draws, bad}
+use Rattle.blic_model.specs.Counts.{handed_down, is_binary, claims, draws, bad}
 use Rattle.blic_claims.specs.Turns.{turns}
 use Rattle.blic_claims.specs.declared.layout.Row.{Row}
 
@@ -59,3 +59,7 @@ first_place l k = (slice_index_or l.handed k (0, 0)).0
 
 abbrev pub second_place : Places → ℕ → ℕ
 second_place l k = (slice_index_or l.handed k (0, 0)).1
+
+-- no binary node has more claims
+abbrev pub HasMostClaims : OrderedCircuit → ℕ → Type 0
+HasMostClaims circuit most = (k : ℕ) → k < length circuit.nodes → is_binary (node_at circuit.nodes k) ≡ true → claims circuit.nodes k ≤ most

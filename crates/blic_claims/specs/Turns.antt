@@ -1,5 +1,5 @@
 -- The turns of a conversation, and the transcript of one: an answer, the draws in order, and the replies after the answer in order.
-use Rattle.std.specs.Prelude.{ℕ, ◌≡◌, ◌+◌, ◌-◌, Bool, cond, nat_lt, List, [], ◌∷◌, ◌++◌, slice_index_or, map, flat_map, filter, length, reverse, sum_by, take}
+use Rattle.std.specs.Prelude.{ℕ, zero, suc, ◌≡◌, ◌+◌, ◌-◌, Bool, true, false, cond, nat_lt, List, [], ◌∷◌, ◌++◌, slice_index_or, map, flat_map, filter, length, reverse, sum_by, take}
 use Rattle.std.specs.List.{AllZip}
 use Rattle.blic_field.specs.Quadratic.{Quadratic}
 use Rattle.blic_model.specs.declared.node.Node.{Node}
@@ -77,3 +77,12 @@ Fits nodes (ForValues k) (Values u w) = Unit {0}
 -- each of the replies so far fits its turn
 abbrev pub AllFit : List Node → ℕ → List Reply → Type 0
 AllFit nodes levels replies = AllZip (Fits nodes) (take (length replies) (turns nodes levels)) replies
+
+abbrev pub is_polys : Turn → Bool
+is_polys (ForPolys k i) = true
+is_polys (ForValues k) = false
+
+-- whether a draw stands after n replies: where the last of them was for polynomials
+abbrev pub wants_draw_after : List Turn → ℕ → Bool
+wants_draw_after ts zero = false
+wants_draw_after ts (suc t) = is_polys (slice_index_or ts t (ForValues 0))

@@ -28,8 +28,8 @@ pub trait Answers {
         ensures most { most self.new ≡ most self.old }
         ensures answer { result ≡ honest_answer (circuit self.old).nodes (length (circuit self.old).order) };
 
-    /// Fills `out` with the polynomial of each claim on a binary node in its free level `j`, where the
-    /// levels above are those of the claim's point.
+    /// Fills `out` with the polynomial of each claim on a binary node in its free level `j`, where all
+    /// levels but `j` are those of the claim's point.
     fn polys<L: Ledger>(
         &mut self,
         points: &Points,

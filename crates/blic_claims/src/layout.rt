@@ -4,12 +4,12 @@ ghost use Rattle.blic_model.specs.Circuit.{OrderedCircuit};
 ghost use Rattle.blic_model.specs.Counts.{claims as claims_of, draws as draws_of, bad as bad_of};
 ghost use Rattle.blic_claims.specs.Turns.{turns};
 ghost use Rattle.blic_claims.specs.Counters.{all_claims, rows_below, totals_below};
-ghost use Rattle.blic_claims.specs.Places.{layout_of, row_at, first_place, second_place};
+ghost use Rattle.blic_claims.specs.Places.{layout_of, row_at, first_place, second_place, HasMostClaims};
 
 use crate::counters::hand_all_down;
 use crate::totals::Totals;
 use blic_basic::NoMem;
-use blic_model::Circuit;
+use blic_model::{Circuit, Node};
 use std::alloc::Global;
 use std::marker::Model;
 
@@ -106,6 +106,20 @@ impl Layout {
         ensures { (c : OrderedCircuit) → self.now ≡ layout_of c → result ≡ claims_of c.nodes node }
     {
         self.row(node).claims
+    }
+
+    /// The greatest number of claims on a binary node of the circuit, 0 where there is none.
+    pub fn most_claims(&self, circuit: &Circuit) -> u32
+        requires { self.now ≡ layout_of circuit.now }
+        ensures { HasMostClaims circuit.now result }
+    {
+        let mut most = 0;
+        for node in 0..circuit.nodes() {
+            if let Node::And(..) | Node::Or(..) = circuit.node(node) {
+                most = most.max(self.claims(node));
+            }
+        }
+        most
     }
 
     /// The number of draws in a conversation.

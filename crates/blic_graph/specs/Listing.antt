@@ -17,9 +17,9 @@ pub record Found : Type 0 where
   pub start : ℕ
   pub queue : Queue
 
--- the hash of two functions
+-- the hash of two functions, near where the first is the same and the second is near
 unfoldable pub hash_of : ℕ → ℕ → ℕ
-hash_of r s = (r * 663608941 + s * 374761393) % 2 ^ 32
+hash_of r s = (r * 663608941 + s) % 2 ^ 32
 
 abbrev pub hash_of_pair : Pair → ℕ
 hash_of_pair x = hash_of x.first x.second

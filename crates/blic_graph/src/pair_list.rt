@@ -239,10 +239,10 @@ impl PairList {
     }
 }
 
-// The hash of two functions.
+// The hash of two functions. Pairs of one level come near one another, and so do their buckets.
 fn hash(first: Ref, second: Ref) -> u32
     ensures { result ≡ hash_of first second }
 {
-    let mixed = u64::from(first.number()) * 663608941 + u64::from(second.number()) * 374761393;
+    let mixed = u64::from(first.number()) * 663608941 + u64::from(second.number());
     (mixed % 4294967296) as u32
 }

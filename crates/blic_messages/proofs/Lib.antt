@@ -1,1 +1,9 @@
 pub mod Bodies
+pub mod HelloParts
+pub mod Numbers
+pub mod OneSpelling
+pub mod Parts
+pub mod PolyParts
+pub mod ReadBodies
+pub mod Spelled
+pub mod ValueParts

@@ -1,5 +1,9 @@
 // Frames of the format.
-use crate::{Ask, Hello, Refusal, Reply, ask_len, encode_ask, encode_reply, reply_len};
+ghost use Rattle.std.specs.Prelude.{◌≤◌, ◌+◌, ◌*◌, length};
+
+use crate::{
+    Ask, Hello, Refusal, Reply, ask_len, decode_reply, encode_ask, encode_reply, reply_len,
+};
 use blic_field::Fe;
 use blic_poly2::Poly2;
 use std::test::Fail;
@@ -74,4 +78,77 @@ fn replies_are_spelled_as_frames(rt: HostRuntime) {
     let n = encode_reply(&Reply::Refused(Refusal::NotServed(hello())), &mut out);
     assert!(rt; is(&out[..8], &[0, 0, 0, 39, 132, 3, 0, 1]));
     assert_eq!(rt; (n, out[43]), (44, 7));
+}
+
+// A reply of at most three numbers, as its kind with these.
+#[derive(Clone, Copy, Debug, PartialEq, Eq, Drop)]
+enum Told {
+    Nothing,
+    Answer(bool),
+    Poly(u64, u64, u64),
+    Values(u64, u64),
+    OutOfTurn,
+    Other,
+}
+
+fn read(frame: &[u8], polys: &mut [Poly2]) -> Told
+    requires { length frame.now ≤ 28 + 24 * length polys.old }
+{
+    match decode_reply(frame, polys) {
+        None => Told::Nothing,
+        Some(reply) => told_by(&reply),
+    }
+}
+
+fn told_by(reply: &Reply<'_>) -> Told {
+    match reply {
+        Reply::Answer(bit) => Told::Answer(*bit),
+        Reply::Polys(polys) => first_of(*polys),
+        Reply::Values(first, second) => Told::Values(first.value(), second.value()),
+        Reply::Refused(Refusal::OutOfTurn) => Told::OutOfTurn,
+        Reply::Refused(_) => Told::Other,
+    }
+}
+
+fn first_of(polys: &[Poly2]) -> Told {
+    if polys.len() == 1 {
+        let poly = polys[0];
+        Told::Poly(poly.c0.value(), poly.c1.value(), poly.c2.value())
+    } else {
+        Told::Other
+    }
+}
+
+#[test]
+fn frames_are_read_as_replies(rt: HostRuntime) {
+    let zero = Poly2 {
+        c0: element(0),
+        c1: element(0),
+        c2: element(0),
+    };
+    let mut polys = [zero; 1];
+    assert_eq!(rt; read(&[0, 0, 0, 1, 129, 1], &mut polys), Told::Answer(true));
+    assert_eq!(rt; read(&[0, 0, 0, 1, 132, 1], &mut polys), Told::OutOfTurn);
+    let values = [
+        0, 0, 0, 16, 131, 0, 0, 0, 0, 0, 0, 0, 3, 31, 255, 255, 255, 255, 255, 255, 253,
+    ];
+    assert_eq!(rt;
+        read(&values, &mut polys),
+        Told::Values(3, 2305843009213693949)
+    );
+    let poly = [
+        0, 0, 0, 24, 130, 0, 0, 0, 0, 0, 0, 0, 1, 31, 255, 255, 255, 255, 255, 255, 254, 0, 0, 0,
+        0, 0, 0, 0, 1,
+    ];
+    assert_eq!(rt;
+        read(&poly, &mut polys),
+        Told::Poly(1, 2305843009213693950, 1)
+    );
+    let all_ones = [
+        0, 0, 0, 16, 131, 31, 255, 255, 255, 255, 255, 255, 255, 0, 0, 0, 0, 0, 0, 0, 1,
+    ];
+    assert_eq!(rt; read(&all_ones, &mut polys), Told::Nothing);
+    assert_eq!(rt; read(&[0, 0, 0, 1, 129, 2], &mut polys), Told::Nothing);
+    assert_eq!(rt; read(&[0, 0, 0, 2, 129, 1], &mut polys), Told::Nothing);
+    assert_eq!(rt; read(&[], &mut polys), Told::Nothing);
 }

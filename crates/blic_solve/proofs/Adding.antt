@@ -7,12 +7,12 @@ use Rattle.blic_model.specs.Shape.{IsShaped}
 use Rattle.blic_model.specs.Subfunctions.{pairs_of}
 use Rattle.blic_store.specs.Growth.{Diagrams}
 use Rattle.blic_graph.specs.declared.pair.Pair.{Pair}
-use Rattle.blic_solve.specs.Plan.{Solved, root_of, pair_count, IsPairLimit, IsNodeLimit, IsPlan}
+use Rattle.blic_solve.specs.Plan.{Solved, HasParts, root_of, pair_count, IsPairLimit, IsNodeLimit, IsPlan}
 use Rattle.blic_solve.specs.Step.{PassesPairs, IsStep, PassesNodes}
-use Rattle.blic_solve.specs.Progress.{HasParts, IsSolvedUpTo}
+use Rattle.blic_solve.specs.Progress.{IsSolvedUpTo}
 use Rattle.blic_solve.proofs.Holds.{looks_below}
 use Rattle.blic_solve.proofs.Sizes.{size_exact}
-use Rattle.blic_solve.proofs.Pushed.{pair_limit, node_limit, next}
+use Rattle.blic_solve.proofs.Pushed.{GraphsGrow, pair_limit, node_limit, next}
 
 module _ (nodes : List Node) (levels most_pairs k listed : ℕ) (fields plan : Solved) (same : fields ≡ plan) (shaped : IsShaped nodes levels)
     (u : IsSolvedUpTo nodes levels plan.store.limit most_pairs k plan listed)
@@ -32,15 +32,15 @@ module _ (nodes : List Node) (levels most_pairs k listed : ℕ) (fields plan : S
       (node_limit nodes levels fields.store.limit most_pairs k fields listed shaped solved l
       (subst (λ m. PassesNodes fields.roots m (most_pairs - listed) fields.store) is g))
 
-  pub added : (new : Diagrams) (r : ℕ) (graph : Option (List Pair)) → IsStep fields.roots node (most_pairs - listed) fields.store new r graph → length new.nodes ≤ new.limit
+  pub added : GraphsGrow → (new : Diagrams) (r : ℕ) (graph : Option (List Pair)) → IsStep fields.roots node (most_pairs - listed) fields.store new r graph → length new.nodes ≤ new.limit
       → (more : ℕ) → more ≡ pair_count graph → (after : Solved) → after ≡ record { store = new; roots = fields.roots ++ r ∷ []; graphs = fields.graphs ++ graph ∷ [] }
       → IsSolvedUpTo nodes levels plan.store.limit most_pairs (k + 1) after (listed + more)
-  added new r graph s room more count after is_after =
+  added grow new r graph s room more count after is_after =
       subst (λ p. IsSolvedUpTo nodes levels p.store.limit most_pairs (k + 1) after (listed + more)) same
       (subst (λ p. IsSolvedUpTo nodes levels fields.store.limit most_pairs (k + 1) p (listed + more)) (sym is_after)
       (subst (λ n. IsSolvedUpTo nodes levels fields.store.limit most_pairs (k + 1) pushed (listed + n)) (sym count)
       (subst (λ n. IsSolvedUpTo nodes levels fields.store.limit most_pairs n pushed (listed + pair_count graph)) (let e : suc k ≡ k + 1 = omega arith in e)
-      (next nodes levels fields.store.limit most_pairs k fields listed shaped solved new r graph (subst (λ m. IsStep fields.roots m (most_pairs - listed) fields.store new r graph) is s) room))))
+      (next nodes levels fields.store.limit most_pairs k fields listed shaped solved grow new r graph (subst (λ m. IsStep fields.roots m (most_pairs - listed) fields.store new r graph) is s) room))))
     where
       pushed : Solved
       pushed = record { store = new; roots = fields.roots ++ r ∷ []; graphs = fields.graphs ++ graph ∷ [] }
@@ -70,6 +70,7 @@ pub all_solved : (nodes : List Node) (levels most_nodes most_pairs : ℕ) (plan 
 all_solved nodes levels most_nodes most_pairs plan listed shaped u = record {
   roots = u.roots;
   solved = u.solved;
+  parts = u.parts;
   exact = λ k e. size_exact nodes levels k plan.store.nodes u.canonical (looks_below nodes levels shaped)
       (let q : length nodes ≡ suc k = omega arith in subst (λ n. HasParts nodes n plan.store.nodes) q u.parts)
       (λ j l. (root_of plan j, record { held = (u.solved j (omega arith)).held; value = (u.solved j (omega arith)).value }));

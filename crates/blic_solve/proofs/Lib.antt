@@ -1,8 +1,8 @@
 mod Adding
 mod Answer
 mod DistinctCounts
-mod Grows
 mod Holds
+mod Levels
 mod Members
 mod NodeSteps
 mod OperandPairs

@@ -14,17 +14,21 @@ use Rattle.blic_model.proofs.Ordered.{ChildrenBelow}
 use Rattle.blic_store.specs.declared.decision.Decision.{Decision}
 use Rattle.blic_store.specs.Function.{Function, Same}
 use Rattle.blic_store.specs.Diagram.{IsRef, function}
+use Rattle.blic_store.specs.Canonical.{IsCanonical}
 use Rattle.blic_store.specs.Growth.{Diagrams, Adds}
-use Rattle.blic_store.proofs.Parts.{function-kept}
+use Rattle.blic_store.proofs.Parts.{function-kept, no_shorter}
 use Rattle.blic_graph.specs.declared.pair.Pair.{Pair}
 use Rattle.blic_graph.specs.Pairs.{IsGraph}
-use Rattle.blic_solve.specs.Plan.{Solved, root_of, graph_of, pair_count, HasGraph, IsSolved, IsWithin, IsPairLimit, IsNodeLimit}
+use Rattle.blic_solve.specs.Plan.{Solved, root_of, graph_of, pair_count, HasGraph, HasParts, IsSolved, IsWithin, IsPairLimit, IsNodeLimit}
 use Rattle.blic_solve.specs.Step.{function_of, IsGraphOf, PassesPairs, IsFewOf, IsStep, PassesNodes}
-use Rattle.blic_solve.specs.Progress.{HasParts, IsSolvedUpTo}
+use Rattle.blic_solve.specs.Progress.{IsSolvedUpTo}
 use Rattle.blic_solve.proofs.Holds.{ordered, looks_below, step_same}
 use Rattle.blic_solve.proofs.Sizes.{StandsFor, size_at_least, size_exact}
 use Rattle.blic_solve.proofs.OperandPairs.{AreOperands, graph_length, more_pairs}
-use Rattle.blic_solve.proofs.Grows.{ref_kept, graph_grows}
+
+-- the law of graphs in stores that grow
+abbrev pub GraphsGrow : Type 0
+GraphsGrow = (f : Function) (old new : List Decision) (a b : ℕ) (pairs : List Pair) → IsCanonical old → IsRef old a → IsRef old b → Adds f old new → IsGraph old a b pairs → IsGraph new a b pairs
 
 pairs_so_far : (nodes : List Node) (levels k : ℕ) → sum_by (pairs_of nodes levels) (below (suc k)) ≡ pairs nodes levels k
 unfolding pairs
@@ -141,7 +145,7 @@ module _ (nodes : List Node) (levels most_nodes most_pairs k : ℕ) (plan : Solv
       let limit = u.limit in
       record { in_range = l; before = u.within; few_pairs = (few_pairs g.graph g.pairs).1; passed = omega arith }
 
-  module _ (new : Diagrams) (r : ℕ) (graph : Option (List Pair)) (s : IsStep plan.roots (node_at nodes k) (most_pairs - listed) plan.store new r graph) where
+  module _ (grow : GraphsGrow) (new : Diagrams) (r : ℕ) (graph : Option (List Pair)) (s : IsStep plan.roots (node_at nodes k) (most_pairs - listed) plan.store new r graph) where
     -- the plan with the node's ref and its pairs
     abbrev pub pushed : Solved
     pushed = record { store = new; roots = plan.roots ++ r ∷ []; graphs = plan.graphs ++ graph ∷ [] }
@@ -162,7 +166,10 @@ module _ (nodes : List Node) (levels most_nodes most_pairs k : ℕ) (plan : Solv
     graph_here = get_or_push plan.graphs graph None k u.graphs
 
     held_kept : (j : ℕ) → j < k → IsRef new.nodes (root_of pushed j)
-    held_kept j l = subst (IsRef new.nodes) (sym (root_kept j l)) (ref_kept _ plan.store.nodes new.nodes adds (root_of plan j) (u.solved j l).held)
+    held_kept j l =
+        let held = (u.solved j l).held in
+        let longer = no_shorter _ plan.store.nodes new.nodes adds in
+        subst (IsRef new.nodes) (sym (root_kept j l)) (let h : root_of plan j < length new.nodes + 2 = omega arith in h)
 
     value_kept : (j : ℕ) → j < k → Same (function new.nodes (root_of pushed j)) (holds nodes j)
     value_kept j l p = ap (λ z. function new.nodes z p) (root_kept j l)
@@ -174,7 +181,7 @@ module _ (nodes : List Node) (levels most_nodes most_pairs k : ℕ) (plan : Solv
     pairs_kept a b ha hb pairs h =
         subst (λ x. IsGraph new.nodes x (root_of pushed b) pairs) (sym (root_kept a ha))
         (subst (λ y. IsGraph new.nodes (root_of plan a) y pairs) (sym (root_kept b hb))
-        (graph_grows _ plan.store.nodes new.nodes adds u.canonical (root_of plan a) (root_of plan b) (u.solved a ha).held (u.solved b hb).held pairs h))
+        (grow _ plan.store.nodes new.nodes (root_of plan a) (root_of plan b) pairs u.canonical (u.solved a ha).held (u.solved b hb).held adds h))
 
     some_kept : (a b : ℕ) → a < k → b < k → (graph : Option (List Pair))
         → IsSomeAnd graph (IsGraph plan.store.nodes (root_of plan a) (root_of plan b)) → IsSomeAnd graph (IsGraph new.nodes (root_of pushed a) (root_of pushed b))

@@ -12,7 +12,7 @@ use Rattle.blic_store.specs.Canonical.{IsCanonical}
 use Rattle.blic_store.proofs.Functions.{function-false, function-true}
 use Rattle.blic_store.proofs.Canonical.{same_ref}
 use Rattle.blic_store.proofs.Under.{part_held}
-use Rattle.blic_solve.specs.Progress.{HasParts}
+use Rattle.blic_solve.specs.Plan.{HasParts}
 use Rattle.blic_solve.proofs.Members.{IsIn}
 use Rattle.blic_solve.proofs.DistinctCounts.{IsImageOf, IsApart, at_least, exact}
 use Rattle.blic_solve.proofs.Tables.{LooksBelow, table, IsConstant, same_true, function_laws, same_from_table, table_same, table_of_constant, constant_from_table}
@@ -67,7 +67,7 @@ looks_same levels f g e l p q h = e p ∙ (l p q h ∙ sym (e q))
 abbrev table_at : List Decision → ℕ → ℕ → List Bool
 table_at decisions levels k = table levels (function decisions (suc (suc k)))
 
-looks : (nodes : List Node) (levels n : ℕ) (decisions : List Decision) → AllLookBelow nodes levels → HasParts nodes n decisions → (k : ℕ) → k < length decisions
+pub looks : (nodes : List Node) (levels n : ℕ) (decisions : List Decision) → AllLookBelow nodes levels → HasParts nodes n decisions → (k : ℕ) → k < length decisions
     → LooksBelow levels (function decisions (suc (suc k)))
 looks nodes levels n decisions l parts k h =
     let w = parts (suc (suc k)) (omega arith) (omega arith) in

@@ -5,7 +5,8 @@ use Rattle.blic_model.specs.declared.node.Node.TheVariants.{Const, Var, Not, Fix
 use Rattle.blic_model.specs.Circuit.{node_at}
 use Rattle.blic_model.specs.Value.{holds}
 use Rattle.blic_model.specs.Subfunctions.{size, pairs, pairs_of}
-use Rattle.blic_store.specs.Function.{Same}
+use Rattle.blic_store.specs.declared.decision.Decision.{Decision}
+use Rattle.blic_store.specs.Function.{Function, Same, IsPart}
 use Rattle.blic_store.specs.Diagram.{function, IsRef}
 use Rattle.blic_store.specs.Growth.{Diagrams}
 use Rattle.blic_graph.specs.declared.pair.Pair.{Pair}
@@ -39,6 +40,16 @@ HasGraph plan k (Fix x b a) = graph_of plan k ≡ None
 HasGraph plan k (And a b) = IsSomeAnd (graph_of plan k) (IsGraph plan.store.nodes (root_of plan a) (root_of plan b))
 HasGraph plan k (Or a b) = IsSomeAnd (graph_of plan k) (IsGraph plan.store.nodes (root_of plan a) (root_of plan b))
 
+-- g is a part of the function of one of the first n nodes
+pub record IsPartBefore (nodes : List Node) (n : ℕ) (g : Function) : Type 0 where
+  pub node : ℕ
+  pub before : node < n
+  pub part : IsPart (holds nodes node) g
+
+-- each decision stands for such a part
+abbrev pub HasParts : List Node → ℕ → List Decision → Type 0
+HasParts nodes n decisions = (r : ℕ) → 2 ≤ r → IsRef decisions r → IsPartBefore nodes n (function decisions r)
+
 -- node k has its function, and as many pairs as its operands have pairs of subfunctions
 pub record IsSolved (nodes : List Node) (levels : ℕ) (plan : Solved) (k : ℕ) : Type 0 where
   pub held : IsRef plan.store.nodes (root_of plan k)
@@ -51,10 +62,11 @@ pub record IsWithin (nodes : List Node) (levels most_nodes most_pairs k : ℕ) :
   pub few_pairs : pairs nodes levels k ≤ most_pairs
   pub few_nodes : size nodes levels k ≤ most_nodes
 
--- every node of the circuit is solved, and the store has their subfunctions and no more
+-- every node of the circuit is solved, and the store has parts of their functions alone, as many as those have subfunctions
 pub record IsPlan (nodes : List Node) (levels : ℕ) (plan : Solved) : Type 0 where
   pub roots : length plan.roots ≡ length nodes
   pub solved : (k : ℕ) → k < length nodes → IsSolved nodes levels plan k
+  pub parts : HasParts nodes (length nodes) plan.store.nodes
   pub exact : (k : ℕ) → k + 1 ≡ length nodes → length plan.store.nodes ≡ size nodes levels k
 
 -- node k is the first that passes a limit, and it passes that of pairs

@@ -2,23 +2,9 @@
 use Rattle.std.specs.Prelude.{ℕ, ◌<◌, ◌≤◌, ◌≡◌, List, length, sum_by}
 use Rattle.blic_model.specs.declared.node.Node.{Node}
 use Rattle.blic_model.specs.Circuit.{below}
-use Rattle.blic_model.specs.Value.{holds}
 use Rattle.blic_model.specs.Subfunctions.{pairs_of}
-use Rattle.blic_store.specs.declared.decision.Decision.{Decision}
-use Rattle.blic_store.specs.Function.{Function, IsPart}
-use Rattle.blic_store.specs.Diagram.{IsRef, function}
 use Rattle.blic_store.specs.Canonical.{IsCanonical}
-use Rattle.blic_solve.specs.Plan.{Solved, IsSolved, IsWithin}
-
--- g is a part of the function of one of the first n nodes
-pub record IsPartBefore (nodes : List Node) (n : ℕ) (g : Function) : Type 0 where
-  pub node : ℕ
-  pub before : node < n
-  pub part : IsPart (holds nodes node) g
-
--- each decision stands for such a part
-abbrev pub HasParts : List Node → ℕ → List Decision → Type 0
-HasParts nodes n decisions = (r : ℕ) → 2 ≤ r → IsRef decisions r → IsPartBefore nodes n (function decisions r)
+use Rattle.blic_solve.specs.Plan.{Solved, HasParts, IsSolved, IsWithin}
 
 -- the first n nodes are solved, within the limits, and `listed` pairs are listed
 pub record IsSolvedUpTo (nodes : List Node) (levels most_nodes most_pairs n : ℕ) (plan : Solved) (listed : ℕ) : Type 0 where

@@ -5,11 +5,12 @@ ghost use Rattle.blic_model.specs.Counts.{is_binary};
 ghost use Rattle.blic_model.specs.Shape.{IsShaped};
 ghost use Rattle.blic_model.specs.Value.{holds};
 ghost use Rattle.blic_solve.specs.Plan.{Solved, IsPlan, IsWithin, IsCause, root_of, graph_of, pair_count};
+ghost use Rattle.blic_store.specs.Diagram.{decision_at};
 ghost use Rattle.blic_solve.specs.Progress.{IsSolvedUpTo};
 
 use crate::step::{Step, StepError, count, solve_node};
 use blic_basic::NoMem;
-use blic_graph::Graph;
+use blic_graph::{Graph, growth_law};
 use blic_model::Circuit;
 use blic_store::{Ref, Store};
 use std::alloc::Global;
@@ -130,6 +131,14 @@ impl Plan {
         n > 0 && self.roots[n - 1] == Ref::TRUE
     }
 
+    /// Where a shaped circuit is solved, each decision's level is one of the circuit's.
+    pub fn levels_law(&self)
+        ensures { (c : OrderedCircuit) → IsShaped c.nodes (length c.order) → IsPlan c.nodes (length c.order) self.now
+            → (k : ℕ) → k < length self.now.store.nodes → (decision_at self.now.store.nodes k).level < length c.order }
+    {
+        self.store.canonical_law();
+    }
+
     // The plan of no node.
     fn empty(alloc: Global, nodes: u32) -> Result<Plan, NoMem>
         ensures { IfOk result (λ p. p ≡ record { store = record { nodes = []; limit = nodes }; roots = []; graphs = [] }) }
@@ -164,6 +173,7 @@ impl Plan {
             pairs - listed,
         ) {
             Ok(step) => {
+                growth_law();
                 self.store.canonical_law();
                 let more = step.pairs();
                 let all = listed + more;

@@ -1,5 +1,5 @@
 -- The unique table: numbers from 0 on, each entered with a hash, and for each bucket of hashes a chain of its numbers, the newest first. Chains hold numbers plus one, and 0 for none.
-use Rattle.std.specs.Prelude.{ℕ, ◌*◌, ◌-◌, ◌/◌, ◌^◌, ◌<◌, ◌≤◌, ◌≡◌, ◌≢◌, List, length, slice_index_or}
+use Rattle.std.specs.Prelude.{ℕ, ◌-◌, ◌^◌, bit_and, ◌<◌, ◌≤◌, ◌≡◌, ◌≢◌, List, length, slice_index_or}
 use Rattle.blic_store.specs.declared.unique_table.Link.{Link}
 
 -- the hash that number k was entered with
@@ -16,9 +16,9 @@ pub record IsLast (hashes : List ℕ) (n hash k : ℕ) : Type 0 where
 abbrev pub HasNone : List ℕ → ℕ → ℕ → Type 0
 HasNone hashes n hash = (j : ℕ) → j < n → hash_at hashes j ≢ hash
 
--- the bucket of a hash, where there are `size`
+-- the bucket of a hash, where there are `size`: near hashes have near buckets
 unfoldable pub bucket : ℕ → ℕ → ℕ
-bucket size hash = (hash * size) / 2 ^ 32
+bucket size hash = bit_and hash (size - 1)
 
 abbrev pub link_at : List Link → ℕ → Link
 link_at links k = slice_index_or links k (record { hash = 0; older = 0 })

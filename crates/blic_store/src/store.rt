@@ -207,12 +207,16 @@ impl Store {
     }
 }
 
-// The hash of a decision.
+// The hash of a decision. Decisions that are made one after another have children that were, and so
+// their hashes are near; blocks of levels and of older children keep them apart where many decisions
+// share a child.
 fn hash(decision: &Decision) -> u32
     ensures { result ≡ hash_of decision.now }
 {
-    let mixed = u64::from(decision.level) * 625341585
-        + u64::from(decision.low.number()) * 663608941
-        + u64::from(decision.high.number()) * 374761393;
-    (mixed % 4294967296) as u32
+    let level = u64::from(decision.level);
+    let low = u64::from(decision.low.number());
+    let high = u64::from(decision.high.number());
+    let near = low.max(high) * 8 + (level * 13 + low * 11 + high * 7) % 8;
+    let apart = low.min(high) / 64 * 663608944 + level / 64 * 625341584;
+    ((near + apart) % 4294967296) as u32
 }

@@ -97,7 +97,7 @@ fn bucket_of(hash: u32, size: usize) -> usize
     ensures value { result ≡ bucket size hash }
     ensures in_range { result < size }
 {
-    ((u64::from(hash) * size as u64) >> 32) as usize
+    hash as usize & (size - 1)
 }
 
 // The last number that was entered with the hash, of the chain that begins with `from`.

@@ -10,10 +10,10 @@ use Rattle.blic_model.specs.declared.node.Node.{Node}
 use Rattle.blic_model.specs.Circuit.{node_at, free}
 use Rattle.blic_model.specs.Counts.{is_binary, draws as draw_count}
 use Rattle.blic_claims.specs.Claims.{Transcript, claims_on}
-use Rattle.blic_claims.specs.Turns.{Reply, Fits, turns, transcript, replies_above, values_number}
+use Rattle.blic_claims.specs.Turns.{Reply, Fits, turns, transcript, replies_above, values_number, is_polys, wants_draw_after}
 use Rattle.blic_claims.proofs.Turns.{above, above-own, above_step, sum_above_is, values_turn, values_below}
 use Rattle.blic_verifier.specs.Acceptance.{Check, checks, fails, Passes}
-use Rattle.blic_verifier.specs.Verdict.{fault_upto, judged, is_polys, wants_draw_after, place_of}
+use Rattle.blic_verifier.specs.Verdict.{fault_upto, judged, place_of}
 use Rattle.blic_verifier.specs.VerdictLaws.{DoneIsAcceptance}
 use Rattle.blic_verifier.specs.Walking.{conditions, IsWalking}
 use Rattle.blic_verifier.specs.declared.next.Next.TheVariants.{Draw, Go, Done, Rejected}
@@ -21,9 +21,10 @@ use Rattle.blic_verifier.proofs.Finding.{filter_parts_upto}
 use Rattle.blic_verifier.proofs.ShownKept.{is_shown}
 use Rattle.blic_verifier.proofs.Shown.{shown_all}
 use Rattle.blic_verifier.proofs.Clear.{clear_all}
-use Rattle.blic_verifier.proofs.Stopping.{start_same, start_next, walk_stop}
+use Rattle.blic_claims.proofs.Starting.{start_same, start_next}
+use Rattle.blic_verifier.proofs.Stopping.{walk_stop}
 use Rattle.blic_verifier.proofs.Judging.{judged_fine}
-use Rattle.blic_verifier.proofs.Totals.{all_turns}
+use Rattle.blic_claims.proofs.AllTurns.{all_turns}
 
 -- a condition that doesn't fail holds
 holds_from : (c : Check) → fails c ≡ false → c.left ≡ c.right

@@ -9,11 +9,10 @@ use Rattle.std.proofs.Math.Seq.{take-append-add}
 use Rattle.blic_model.specs.declared.node.Node.{Node}
 use Rattle.blic_model.specs.Circuit.{node_at, below, free}
 use Rattle.blic_model.specs.Counts.{is_binary}
-use Rattle.blic_claims.specs.Turns.{ForPolys, ForValues, Reply, node_turns, turns, transcript, draws_above, replies_above, draw_number, polys_number, values_number, no_reply, polys_of, values_of}
+use Rattle.blic_claims.specs.Turns.{ForPolys, ForValues, Reply, node_turns, turns, transcript, draws_above, replies_above, draw_number, polys_number, values_number, no_reply, polys_of, values_of, is_polys}
 use Rattle.blic_claims.proofs.Lists.{length-below}
 use Rattle.blic_claims.proofs.Turns.{above, above-suc, above-own, reverse_below, length-node_turns, binary_turns, sum_above_is, binary_inside}
 use Rattle.blic_verifier.specs.Acceptance.{fails}
-use Rattle.blic_verifier.specs.Verdict.{is_polys}
 use Rattle.blic_verifier.specs.VerdictLaws.{FaultIsFixed}
 use Rattle.blic_verifier.proofs.Finding.{filter_all}
 use Rattle.blic_verifier.proofs.ShownKept.{Agree, checks_kept}
@@ -103,6 +102,19 @@ polys_before nodes levels k p lk b l =
     ∙ (count_parts is_polys (node_turns nodes levels) (length nodes) k p lk (omega arith)
     ∙ (ap₂ (λ f z. above f (length nodes) k + z) (fun_ext (node_count nodes levels)) here
     ∙ ap (λ z. z + p) (sym (sum_above_is nodes (λ j. length (free nodes levels j)) k))))
+
+-- how many draws come before the reply of number t
+abbrev pub draws_before : List Node → ℕ → ℕ → ℕ
+draws_before nodes levels t = length (filter is_polys (take t (turns nodes levels)))
+
+pub draws_before_rise : (nodes : List Node) (levels m n : ℕ) → m ≤ n → draws_before nodes levels m ≤ draws_before nodes levels n
+unfolding count
+draws_before_rise nodes levels m n l = count_more is_polys (turns nodes levels) m n l
+
+pub draws_before_node : (nodes : List Node) (levels k p : ℕ) → k < length nodes → is_binary (node_at nodes k) ≡ true → p ≤ length (free nodes levels k)
+    → draws_before nodes levels (replies_above nodes levels k + p) ≡ draws_above nodes levels k + p
+unfolding count
+draws_before_node nodes levels k p lk b l = polys_before nodes levels k p lk b l
 
 agree_more : (nodes : List Node) (levels : ℕ) (answer : Bool) (draws others : List ℕ) (replies more : List Reply)
     → count is_polys (take (length replies - 1) (turns nodes levels)) ≤ length draws

@@ -56,7 +56,7 @@ zip_from R d e [] (y ∷ ys) l h = absurd (omega arith)
 zip_from R d e (x ∷ xs) [] l h = absurd (omega arith)
 zip_from R d e (x ∷ xs) (y ∷ ys) l h = (h 0 (omega arith), zip_from R d e xs ys (omega arith) (λ t m. h (suc t) (omega arith)))
 
-fits_honest : (nodes : List Node) (levels : ℕ) (T : Transcript) (u : Turn) → Fits nodes u (honest_at nodes levels T u)
+pub fits_honest : (nodes : List Node) (levels : ℕ) (T : Transcript) (u : Turn) → Fits nodes u (honest_at nodes levels T u)
 fits_honest nodes levels T (ForPolys k i) = length-map (claims_on nodes levels T k) _ ∙ length-claims_on nodes levels T k
 fits_honest nodes levels T (ForValues k) = tt
 

@@ -2,9 +2,9 @@
 use Rattle.std.proofs.Common.{ℕ, suc, ◌≡◌, ap, List, length, Bool, cond, eqb}
 use Rattle.std.specs.Prelude.{Some, None}
 use Rattle.blic_model.specs.declared.node.Node.{Node}
-use Rattle.blic_claims.specs.Turns.{Reply, turns, transcript}
+use Rattle.blic_claims.specs.Turns.{Reply, turns, transcript, wants_draw_after}
 use Rattle.blic_verifier.specs.Acceptance.{Check}
-use Rattle.blic_verifier.specs.Verdict.{fault_upto, judged, wants_draw_after, place_of}
+use Rattle.blic_verifier.specs.Verdict.{fault_upto, judged, place_of}
 use Rattle.blic_verifier.specs.declared.next.Next.TheVariants.{Draw, Go, Done, Rejected}
 
 -- a fault that is shown is told

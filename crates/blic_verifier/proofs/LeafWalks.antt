@@ -16,14 +16,14 @@ use Rattle.blic_claims.specs.Points.{PointTable, coordinate}
 use Rattle.blic_claims.specs.Turns.{Reply, transcript}
 use Rattle.blic_claims.proofs.ClaimCounts.{length-claims_on}
 use Rattle.blic_verifier.specs.Acceptance.{leaf_check, node_checks}
-use Rattle.blic_verifier.specs.Standing.{AreHeld}
+use Rattle.blic_claims.specs.Held.{AreHeld}
 use Rattle.blic_verifier.specs.Walking.{conditions}
 use Rattle.blic_verifier.specs.Holding.{IsFirstDifference, value_in, WalksTo, IsTakenAs, leaf_taken}
 use Rattle.blic_verifier.proofs.Clear.{fault_here}
-use Rattle.blic_verifier.proofs.Stopping.{count_own}
-use Rattle.blic_verifier.proofs.Handing.{hands, held_leaf, leaf_fault, leaf_fine}
+use Rattle.blic_claims.proofs.Held.{count_own, hands, held_leaf}
+use Rattle.blic_verifier.proofs.Handing.{leaf_fault, leaf_fine}
 use Rattle.blic_verifier.proofs.Judging.{judged_fault}
-use Rattle.blic_verifier.proofs.KeptPoints.{var_free}
+use Rattle.blic_claims.proofs.KeptPoints.{var_free}
 use Rattle.blic_verifier.proofs.Passing.{walk_more, value_place}
 
 leaf_walk : (c : OrderedCircuit) (answer : Bool) (draws : List ℕ) (replies : List Reply) (k : ℕ) (p : PointTable) (vs : List ℕ) (right found : ℕ → ℕ) (o : Option ℕ)

@@ -7,9 +7,9 @@ use Rattle.blic_model.specs.Counts.{claims}
 use Rattle.blic_model.specs.Shape.{IsShaped}
 use Rattle.blic_claims.specs.Places.{given, places_of, Places, layout_of, row_at, first_place, second_place}
 use Rattle.blic_claims.specs.declared.layout.Row.{Row}
-use Rattle.blic_verifier.proofs.Rows.{sum_apart}
-use Rattle.blic_verifier.proofs.Places.{row_of_layout, first_of_layout, second_of_layout}
-use Rattle.blic_verifier.proofs.BinaryWalk.{IsPair, pair_ap, pair_below, pair_room}
+use Rattle.blic_claims.proofs.Rows.{sum_apart}
+use Rattle.blic_claims.proofs.Places.{row_of_layout, first_of_layout, second_of_layout}
+use Rattle.blic_claims.proofs.Pairs.{IsPair, pair_ap, pair_below, pair_room}
 
 pub left_place : (c : OrderedCircuit) (l : Places) (k a b n : ℕ) (r : Row) → l ≡ layout_of c → IsShaped c.nodes (length c.order) → k < length c.nodes
     → IsPair (node_at c.nodes k) a b → n ≡ first_place l k → r ≡ row_at l.rows a

@@ -15,7 +15,9 @@ use Rattle.blic_claims.proofs.Drawn.{point_at_own}
 use Rattle.blic_claims.proofs.Turns.{polys_below, polys_turn}
 use Rattle.blic_claims.specs.Claims.{Transcript, Claim, claims_on, no_claim, point_at}
 use Rattle.blic_claims.specs.Turns.{draw_number, polys_number, Reply, Polys, ForPolys, ForValues, turns, transcript, polys_of, no_reply, replies_above}
-use Rattle.blic_verifier.proofs.AddedReply.{agree_reply, agree_above, held_kept, sound_kept}
+use Rattle.blic_claims.proofs.HeldKept.{held_kept}
+use Rattle.blic_claims.proofs.Added.{agree_above}
+use Rattle.blic_verifier.proofs.AddedReply.{agree_reply, sound_kept}
 use Rattle.blic_verifier.proofs.Fitting.{fits_more}
 use Rattle.blic_verifier.proofs.Finding.{find_mapped, find_mapped_none}
 use Rattle.blic_verifier.proofs.Shown.{polys_verdict}

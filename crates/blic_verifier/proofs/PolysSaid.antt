@@ -7,12 +7,12 @@ use Rattle.blic_poly2.specs.Poly.{reduced_at}
 use Rattle.blic_model.specs.Counts.{claims}
 use Rattle.blic_model.specs.declared.node.Node.{Node}
 use Rattle.blic_claims.proofs.Turns.{polys_turn, values_below}
-use Rattle.blic_claims.specs.Turns.{Reply, Polys, ForPolys, ForValues, turns}
+use Rattle.blic_claims.specs.Turns.{Reply, Polys, ForPolys, ForValues, turns, is_polys, wants_draw_after}
 use Rattle.blic_verifier.proofs.Judging.{judged_fault, judged_fine}
 use Rattle.blic_verifier.proofs.PolysReply.{reply_place, polys_fault, polys_fine}
 use Rattle.blic_verifier.specs.Acceptance.{no_poly}
 use Rattle.blic_verifier.specs.Standing.{IsReady}
-use Rattle.blic_verifier.specs.Verdict.{judged, judged_at, verdict, is_polys, wants_draw_after, told_count}
+use Rattle.blic_verifier.specs.Verdict.{judged, judged_at, verdict, told_count}
 use Rattle.blic_verifier.specs.declared.next.Next.TheVariants.{Draw, Go, Done, Rejected, WrongCount}
 use Rattle.blic_verifier.specs.declared.place.Part.TheVariants.{Poly}
 

@@ -15,10 +15,10 @@ use Rattle.blic_claims.specs.Points.{PointTable}
 use Rattle.blic_claims.specs.Turns.{transcript}
 use Rattle.blic_claims.proofs.Turns.{above-own, sum_above_is}
 use Rattle.blic_claims.proofs.SomeClaim.{some_claim_law}
-use Rattle.blic_verifier.specs.Standing.{count_from}
+use Rattle.blic_claims.specs.Held.{count_from}
 use Rattle.blic_verifier.specs.Holding.{value_in, WalksTo}
-use Rattle.blic_verifier.proofs.Rows.{sum_apart}
-use Rattle.blic_verifier.proofs.KeptPoints.{free_is}
+use Rattle.blic_claims.proofs.Rows.{sum_apart}
+use Rattle.blic_claims.proofs.KeptPoints.{free_is}
 use Rattle.blic_verifier.proofs.Passing.{value_place}
 
 -- the root's claim is the answer

@@ -11,8 +11,9 @@ use Rattle.blic_verifier.specs.Acceptance.{no_poly}
 use Rattle.blic_verifier.specs.Verdict.{Talk, Silent, Talked, with_draw}
 use Rattle.blic_verifier.specs.Standing.{Verifying, held_value, StandsFor, StandsAt, IsReady, claims_waiting}
 use Rattle.blic_verifier.specs.declared.stage.Stage.TheVariants.{Fresh, Ready, Drawing}
-use Rattle.blic_verifier.proofs.Rows.{IsRow, sum_apart}
-use Rattle.blic_verifier.proofs.Passing.{is_place, value_place}
+use Rattle.blic_claims.proofs.Rows.{IsRow, sum_apart}
+use Rattle.blic_claims.proofs.HeldNodes.{is_place}
+use Rattle.blic_verifier.proofs.Passing.{value_place}
 use Rattle.blic_verifier.proofs.AddedDraw.{draw_step}
 
 pub drawn_stands : (s n : Verifying) (k i r : ℕ) (row : Row) → s.stage ≡ Drawing k i → n.stage ≡ Ready k i → n.circuit ≡ s.circuit

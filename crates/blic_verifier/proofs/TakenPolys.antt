@@ -19,7 +19,7 @@ use Rattle.blic_verifier.specs.Fitted.{HasFewTurns}
 use Rattle.blic_verifier.specs.declared.place.Part.TheVariants.{Poly}
 use Rattle.blic_verifier.specs.declared.next.Next.TheVariants.{Draw, Rejected, WrongCount}
 use Rattle.blic_verifier.specs.declared.stage.Stage.TheVariants.{Fresh, Ready, Drawing}
-use Rattle.blic_verifier.proofs.Rows.{IsRow}
+use Rattle.blic_claims.proofs.Rows.{IsRow}
 use Rattle.blic_verifier.proofs.Passing.{value_place}
 use Rattle.blic_verifier.proofs.PolysReply.{polys_fine, reply_place}
 use Rattle.blic_verifier.proofs.PolysSaid.{count_says, fault_says, fine_says}

@@ -23,7 +23,7 @@ use Rattle.blic_verifier.specs.declared.place.Part.TheVariants.{Ends, Combine}
 use Rattle.blic_verifier.specs.declared.next.Next.{Next}
 use Rattle.blic_verifier.specs.declared.next.Next.TheVariants.{Done, Rejected}
 use Rattle.blic_verifier.specs.declared.stage.Stage.TheVariants.{Ready}
-use Rattle.blic_verifier.proofs.Rows.{IsRow}
+use Rattle.blic_claims.proofs.Rows.{IsRow}
 use Rattle.blic_verifier.proofs.Judging.{judged_fault}
 use Rattle.blic_verifier.proofs.ValuesFault.{values_next, ends_fault, combine_fault}
 use Rattle.blic_verifier.proofs.TakenPolys.{ready_for, not_silent, held_at}

@@ -14,15 +14,17 @@ use Rattle.blic_claims.proofs.Turns.{values_below, values_turn}
 use Rattle.blic_claims.proofs.Lists.{All-below-lt}
 use Rattle.blic_claims.specs.Claims.{Claim, claims_on, no_claim}
 use Rattle.blic_claims.specs.Turns.{sum_above, draw_number, polys_number, values_number, Reply, Values, ForValues, turns, transcript, polys_of, no_reply, replies_above}
-use Rattle.blic_verifier.proofs.AddedReply.{agree_reply, agree_above, sound_kept}
-use Rattle.blic_verifier.proofs.Stopping.{start_next}
+use Rattle.blic_claims.proofs.Added.{agree_above}
+use Rattle.blic_verifier.proofs.AddedReply.{agree_reply, sound_kept}
+use Rattle.blic_claims.proofs.Starting.{start_next}
 use Rattle.blic_verifier.proofs.Fitting.{fits_more}
 use Rattle.blic_verifier.proofs.Finding.{find_skip}
 use Rattle.blic_verifier.proofs.Shown.{ends_part}
 use Rattle.blic_verifier.proofs.ShownKept.{is_shown}
 use Rattle.blic_verifier.proofs.Clear.{clear_more, values_verdict}
 use Rattle.blic_verifier.specs.Acceptance.{Check, no_poly, sent, value_at, ends_check, combine_check, binary_checks, fails}
-use Rattle.blic_verifier.specs.Standing.{AreHeld, IsReady}
+use Rattle.blic_claims.specs.Held.{AreHeld}
+use Rattle.blic_verifier.specs.Standing.{IsReady}
 use Rattle.blic_verifier.specs.Verdict.{fault_upto}
 use Rattle.blic_verifier.specs.Walking.{conditions, IsClear, IsWalking}
 

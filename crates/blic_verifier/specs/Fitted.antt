@@ -2,7 +2,7 @@
 use Rattle.std.specs.Prelude.{ℕ, suc, ◌≡◌, ◌<◌, ◌≤◌, Bool, true, false, List, length}
 use Rattle.blic_model.specs.Circuit.{OrderedCircuit, node_at, free}
 use Rattle.blic_model.specs.Counts.{is_binary, claims}
-use Rattle.blic_claims.specs.Places.{Places, layout_of}
+use Rattle.blic_claims.specs.Places.{Places, layout_of, HasMostClaims}
 use Rattle.blic_claims.specs.Points.{PointTable}
 use Rattle.blic_claims.specs.Turns.{Reply, turns}
 use Rattle.blic_verifier.specs.Verdict.{is_verdict}
@@ -21,10 +21,6 @@ StageFits circuit (Ready k i) =
 StageFits circuit (Drawing k i) =
     (k < length circuit.nodes) × (is_binary (node_at circuit.nodes k) ≡ true) × (i < length (free circuit.nodes (length circuit.order) k))
 StageFits circuit Over = Unit {0}
-
--- no binary node has more claims
-abbrev pub HasMostClaims : OrderedCircuit → ℕ → Type 0
-HasMostClaims circuit most = (k : ℕ) → k < length circuit.nodes → is_binary (node_at circuit.nodes k) ≡ true → claims circuit.nodes k ≤ most
 
 -- the turns have numbers of one word
 abbrev pub HasFewTurns : OrderedCircuit → Type 0

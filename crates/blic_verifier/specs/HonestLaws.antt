@@ -1,16 +1,21 @@
 -- The law of acceptance: whatever is drawn, the honest replies pass.
-use Rattle.std.specs.Prelude.{ℕ, ◌≡◌, ◌<◌, List, length, All}
+use Rattle.std.specs.Prelude.{ℕ, suc, ◌≡◌, ◌<◌, true, List, slice_index_or, length, All, Option}
 use Rattle.blic_field.specs.Field.{modulus}
 use Rattle.blic_model.specs.declared.node.Node.{Node}
 use Rattle.blic_model.specs.Formula.{PrenexFormula}
 use Rattle.blic_model.specs.Limits.{IsFormula}
 use Rattle.blic_model.specs.Truth.{truth}
 use Rattle.blic_model.specs.Building.{circuit_of}
+use Rattle.blic_model.specs.Circuit.{OrderedCircuit, node_at, free}
 use Rattle.blic_model.specs.Shape.{IsShaped}
-use Rattle.blic_model.specs.Counts.{draws as draw_count}
-use Rattle.blic_claims.specs.Turns.{turns}
+use Rattle.blic_model.specs.Counts.{is_binary, draws as draw_count}
+use Rattle.blic_claims.specs.Turns.{ForPolys, ForValues, Fits, is_polys, no_reply, turns}
 use Rattle.blic_claims.specs.Honest.{honest_answer, honest_replies}
+use Rattle.blic_messages.specs.Replies.{Said}
+use Rattle.blic_messages.specs.declared.ask.Hello.{Hello}
 use Rattle.blic_verifier.specs.Acceptance.{Passes}
+use Rattle.blic_verifier.specs.SoundnessLaws.{ReplyHasElements}
+use Rattle.blic_verifier.specs.Conversation.{AreHonest, GoesOnOrAccepts, beginning, position_after}
 
 -- all draws of a conversation: as many elements as it has
 abbrev pub AreDraws : List Node → ℕ → List ℕ → Type 0
@@ -29,3 +34,24 @@ HonestRepliesPassWithTruth =
     → (honest_answer (circuit_of f).nodes (length (circuit_of f).order) ≡ truth f)
     × Passes (circuit_of f).nodes (length (circuit_of f).order) (truth f) draws
     (honest_replies (circuit_of f).nodes (length (circuit_of f).order) draws (length (turns (circuit_of f).nodes (length (circuit_of f).order))))
+
+-- a conversation in which each reply is the honest one goes on, or has ended with the root's value accepted
+abbrev pub HonestConversationAccepts : Type 0
+HonestConversationAccepts =
+    (c : OrderedCircuit) → IsShaped c.nodes (length c.order) → (draw : ℕ → ℕ) → ((n : ℕ) → draw n < modulus) → (h : Hello) → (readings : List (Option Said))
+    → AreHonest c draw (beginning h) readings → GoesOnOrAccepts (honest_answer c.nodes (length c.order)) (position_after c draw (beginning h) readings)
+
+-- each honest reply fits its turn, and its numbers are elements
+abbrev pub HonestReplyFits : Type 0
+HonestReplyFits =
+    (nodes : List Node) (levels : ℕ) → IsShaped nodes levels → (draws : List ℕ) → All (λ r. r < modulus) draws → (t : ℕ) → t < length (turns nodes levels)
+    → Fits nodes (slice_index_or (turns nodes levels) t (ForValues 0)) (slice_index_or (honest_replies nodes levels draws (suc t)) t no_reply)
+    × ReplyHasElements (slice_index_or (honest_replies nodes levels draws (suc t)) t no_reply)
+
+-- a turn for polynomials is that of a binary node and one of its free levels; the last turn is for values
+abbrev pub TurnsAreOfNodes : Type 0
+TurnsAreOfNodes =
+    (nodes : List Node) (levels : ℕ) → IsShaped nodes levels
+    → ((t k i : ℕ) → t < length (turns nodes levels) → slice_index_or (turns nodes levels) t (ForValues 0) ≡ ForPolys k i
+    → (k < length nodes) × (is_binary (node_at nodes k) ≡ true) × (i < length (free nodes levels k)))
+    × ((t : ℕ) → t < length (turns nodes levels) → is_polys (slice_index_or (turns nodes levels) t (ForValues 0)) ≡ true → suc t < length (turns nodes levels))

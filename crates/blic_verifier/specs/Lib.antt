@@ -1,5 +1,6 @@
 pub mod Acceptance
 pub mod Accepting
+pub mod Conversation
 pub mod Fitted
 pub mod Holding
 pub mod HonestLaws

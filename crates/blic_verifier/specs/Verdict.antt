@@ -1,10 +1,10 @@
 -- What is said of the next reply of a conversation.
-use Rattle.std.specs.Prelude.{ℕ, ◌≡◌, zero, suc, Bool, true, false, cond, ◌==◌, nat_lt, List, [], ◌∷◌, ◌++◌, slice_index_or, length, min, filter, find, Option, Some, None}
+use Rattle.std.specs.Prelude.{ℕ, ◌≡◌, suc, Bool, true, false, cond, ◌==◌, nat_lt, List, [], ◌∷◌, ◌++◌, slice_index_or, length, min, filter, find, Option, Some, None}
 use Rattle.blic_model.specs.declared.node.Node.{Node}
 use Rattle.blic_model.specs.Counts.{claims}
 use Rattle.blic_messages.specs.Replies.{Said, Answer, Polys, Values, Refused}
 use Rattle.blic_claims.specs.Claims.{Transcript}
-use Rattle.blic_claims.specs.Turns.{Turn, ForPolys, ForValues, Reply, turns, transcript}
+use Rattle.blic_claims.specs.Turns.{Turn, ForPolys, ForValues, Reply, turns, transcript, wants_draw_after}
 use Rattle.blic_claims.specs.Turns.{Polys as PolysReply, Values as ValuesReply}
 use Rattle.blic_model.specs.Circuit.{OrderedCircuit}
 use Rattle.blic_verifier.specs.Acceptance.{Check, checks, fails, Passes}
@@ -24,15 +24,6 @@ checks_upto nodes levels T n = filter (λ c. nat_lt c.reply n) (checks nodes lev
 -- the first of them that fails
 abbrev pub fault_upto : List Node → ℕ → Transcript → ℕ → Option Check
 fault_upto nodes levels T n = find fails (checks_upto nodes levels T n)
-
-abbrev pub is_polys : Turn → Bool
-is_polys (ForPolys k i) = true
-is_polys (ForValues k) = false
-
--- whether a draw stands after n replies: where the last of them was for polynomials
-abbrev pub wants_draw_after : List Turn → ℕ → Bool
-wants_draw_after ts zero = false
-wants_draw_after ts (suc t) = is_polys (slice_index_or ts t (ForValues 0))
 
 abbrev pub place_of : Check → Place
 place_of c = record { node = c.node; part = c.part; claim = c.claim }
@@ -72,6 +63,13 @@ next_after nodes levels (Talked b draws replies) (Answer c) = WrongKind (suc (le
 next_after nodes levels (Talked b draws replies) (Polys ps) = verdict nodes levels b draws replies (PolysReply ps)
 next_after nodes levels (Talked b draws replies) (Values u w) = verdict nodes levels b draws replies (ValuesReply u w)
 next_after nodes levels (Talked b draws replies) (Refused r) = WrongKind (suc (length replies))
+
+-- how many products of elements a reply takes at most: one for each polynomial, or one for values
+abbrev pub products_for : Said → ℕ
+products_for (Answer b) = 0
+products_for (Polys ps) = length ps
+products_for (Values u w) = 1
+products_for (Refused r) = 0
 
 -- the talk with a reply added, if it is of a kind that can stand there
 abbrev pub with_reply : Talk → Said → Talk

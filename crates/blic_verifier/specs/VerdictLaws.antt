@@ -4,9 +4,9 @@ use Rattle.std.specs.List.{AllZip}
 use Rattle.blic_model.specs.declared.node.Node.{Node}
 use Rattle.blic_model.specs.Counts.{draws as draw_count}
 use Rattle.blic_claims.specs.Claims.{Transcript}
-use Rattle.blic_claims.specs.Turns.{Reply, Fits, turns, transcript}
+use Rattle.blic_claims.specs.Turns.{Reply, Fits, turns, transcript, is_polys}
 use Rattle.blic_verifier.specs.Acceptance.{Check, Passes, first_fault}
-use Rattle.blic_verifier.specs.Verdict.{judged, fault_upto, is_polys}
+use Rattle.blic_verifier.specs.Verdict.{judged, fault_upto}
 use Rattle.blic_verifier.specs.declared.next.Next.TheVariants.{Done}
 
 -- of an answer, all draws and all replies, which fit their turns, it is said that the answer stands exactly where they pass

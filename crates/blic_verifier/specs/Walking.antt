@@ -6,7 +6,7 @@ use Rattle.blic_model.specs.Counts.{draws as draw_count}
 use Rattle.blic_claims.specs.Claims.{Transcript, claims_on}
 use Rattle.blic_claims.specs.Turns.{Reply, AllFit, transcript, turns, draws_above, replies_above}
 use Rattle.blic_verifier.specs.Acceptance.{Check, node_checks, fails}
-use Rattle.blic_verifier.specs.Standing.{AreHeld}
+use Rattle.blic_claims.specs.Held.{AreHeld}
 
 -- the conditions of node k
 abbrev pub conditions : List Node → ℕ → Transcript → ℕ → List Check

@@ -8,12 +8,6 @@ use blic_field::Fe;
 use blic_model::Node;
 use std::sync::ledger::Ledger;
 
-pub(crate) fn is_binary(node: Node) -> bool
-    ensures { result ≡ is_binary_node node }
-{
-    matches!(node, Node::And(..) | Node::Or(..))
-}
-
 /// The children of a binary node.
 pub(crate) fn operands(node: Node) -> (u32, u32)
     ensures { result ≡ operands_of node }

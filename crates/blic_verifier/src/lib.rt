@@ -13,7 +13,7 @@ mod stage;
 mod verifier;
 mod walk;
 
-pub use honest::acceptance_law;
+pub use honest::{acceptance_law, honest_reply_law};
 pub use laws::verdict_law;
 pub use next::Next;
 pub use place::{Part, Place};

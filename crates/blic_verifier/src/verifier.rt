@@ -2,15 +2,15 @@
 ghost use Rattle.std.specs.Prelude.{◌≡◌, ◌≤◌, ◌+◌, ◌*◌, ◌↔◌, ℕ, Bool, List, [], true, false, length, IfOk, IsTrue};
 ghost use Rattle.blic_claims.specs.Places.{layout_of};
 ghost use Rattle.blic_claims.specs.Turns.{Reply as ReplyOf};
-ghost use Rattle.blic_messages.specs.Replies.{said, polynomials_in, Polys, Values};
+ghost use Rattle.blic_messages.specs.Replies.{said, Polys, Values};
 ghost use Rattle.blic_verifier.specs.Accepting.{IsWorth};
-ghost use Rattle.blic_verifier.specs.Verdict.{Talk, Silent, Talked, judged, next_after, with_reply, with_draw, is_in_turn, is_verdict, IsAcceptedAs};
+ghost use Rattle.blic_verifier.specs.Verdict.{products_for, Talk, Silent, Talked, judged, next_after, with_reply, with_draw, is_in_turn, is_verdict, IsAcceptedAs};
 ghost use Rattle.blic_verifier.specs.Standing.{StandsAt, StandsFor, is_over, wants_draw as wants_draw_at, claims_waiting};
 ghost use Rattle.blic_verifier.specs.Fitted.{Agrees, IsOnWalk};
 
 use crate::binary::combined;
 use crate::held::Held;
-use crate::kept::{keep, most_claims};
+use crate::kept::keep;
 use crate::next::Next;
 use crate::place::{Part, Place};
 use crate::stage::Stage;
@@ -68,7 +68,7 @@ impl<'c> Verifier<'c> {
             c1: Fe::ZERO,
             c2: Fe::ZERO,
         };
-        let Ok(polys) = vec![in alloc; none; most_claims(circuit, layout) as usize] else {
+        let Ok(polys) = vec![in alloc; none; layout.most_claims(circuit) as usize] else {
             return Err(NoMem);
         };
         Ok(Verifier {
@@ -85,7 +85,7 @@ impl<'c> Verifier<'c> {
     /// Takes the reply that stands next, and says what comes after it. For a reply that fits its turn
     /// that is the first check that fails, or acceptance of the whole conversation, or else what is to
     /// be sent. After a verdict (`Done`, `Rejected`, `WrongKind` or `WrongCount`) it is `Over`.
-    /// At most one product of elements for each polynomial of the reply, and one for values.
+    /// At most one product of elements for each polynomial of the reply, or one for values.
     pub fn take<L: Ledger>(&mut self, reply: &Reply<'_>, steps: &mut Steps<L>) -> Next
         requires { wants_draw_at self.old.stage ≡ false }
         ensures circuit { self.new.circuit ≡ self.old.circuit }
@@ -100,7 +100,7 @@ impl<'c> Verifier<'c> {
             → IsWorth self.old.circuit b (with_reply t (said reply.now)) }
         ensures draws { IsTrue (wants_draw_at self.new.stage) ↔ (result ≡ Next.Draw) }
         ensures ends { is_over self.new.stage ≡ is_verdict result }
-        ensures at_most { steps.new ≤ steps.old + polynomials_in (said reply.now) + 1 }
+        ensures at_most { steps.new ≤ steps.old + products_for (said reply.now) }
         ensures at_least { steps.old ≤ steps.new }
     {
         self.circuit.is_within_limits();
@@ -120,7 +120,7 @@ impl<'c> Verifier<'c> {
             → IsAcceptedAs self.old.circuit b (with_reply t (said reply.now)) }
         ensures draws { IsTrue (wants_draw_at self.new.stage) ↔ (result ≡ Next.Draw) }
         ensures ends { is_over self.new.stage ≡ is_verdict result }
-        ensures at_most { steps.new ≤ steps.old + polynomials_in (said reply.now) + 1 }
+        ensures at_most { steps.new ≤ steps.old + products_for (said reply.now) }
         ensures at_least { steps.old ≤ steps.new }
     {
         match self.stage {

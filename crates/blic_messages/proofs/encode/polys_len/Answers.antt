@@ -1,4 +1,4 @@
-use Rattle.std.proofs.Common.{◌≡◌, sym}
+use Rattle.std.proofs.Common.{sym}
 use Rattle.blic_messages.proofs.Bodies.{length-poly_bodies}
 use Rattle.blic_messages.proofs.encode.polys_len.Goals as goal
 

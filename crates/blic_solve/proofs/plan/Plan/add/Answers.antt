@@ -28,6 +28,6 @@ returns-in-Err-NodesFull-clause-refused c =
 pub returns-in-Ok-push-clause-solved : goal.returns-in-Ok-push-clause-solved
 returns-in-Ok-push-clause-solved c =
     added c.args.circuit.now.nodes (length c.args.circuit.now.order) c.args.pairs c.args.k c.args.listed (the_view c.self.inside) c.args.self.now c.self.view_is
-    c.is_within_limits.ensures.shaped c.requires.solved c.node.result c.node.ensures
+    c.is_within_limits.ensures.shaped c.requires.solved c.node.result c.node.ensures c.growth_law.ensures
     c.solve_node.new.store c.in-Ok.step.root c.in-Ok.step.graph c.in-Ok.ensures.ok c.canonical_law.ensures.within
     c.pairs-more.result c.pairs-more.ensures c.push.new.self c.in-Ok-push.ensures

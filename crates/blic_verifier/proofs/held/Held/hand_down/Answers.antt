@@ -2,8 +2,9 @@ use Rattle.std.proofs.Common.{arith, ◌+◌, ◌∙◌, ap, subst, sym, length,
 use mathlib.Core.Path.{ap₂}
 use Rattle.blic_model.specs.Circuit.{node_at}
 use Rattle.blic_verifier.specs.Holding.{operands_of}
-use Rattle.blic_verifier.proofs.Places.{rows_of_layout, handed_of_layout}
-use Rattle.blic_verifier.proofs.BinaryWalk.{IsPair, pair_of, pair_below, binary_walk}
+use Rattle.blic_claims.proofs.Places.{rows_of_layout, handed_of_layout}
+use Rattle.blic_claims.proofs.Pairs.{IsPair, pair_below}
+use Rattle.blic_verifier.proofs.BinaryWalk.{pair_of, binary_walk}
 use Rattle.blic_verifier.proofs.PairPlaces.{left_place, right_place}
 use Rattle.blic_verifier.proofs.held.Held.hand_down.Goals as goal
 

@@ -3,8 +3,8 @@ use Rattle.std.specs.Prelude.{sum_by}
 use Rattle.blic_model.specs.Circuit.{root, below}
 use Rattle.blic_model.specs.Counts.{claims}
 use Rattle.blic_model.proofs.Shaped.{size_of}
-use Rattle.blic_verifier.proofs.Rows.{sum_more}
-use Rattle.blic_verifier.proofs.Places.{rows_of_layout, row_of_layout}
+use Rattle.blic_claims.proofs.Rows.{sum_more}
+use Rattle.blic_claims.proofs.Places.{rows_of_layout, row_of_layout}
 use Rattle.blic_verifier.proofs.held.Held.new.Goals as goal
 
 pub row-root-requires : goal.row-root-requires

@@ -4,7 +4,7 @@ use Rattle.blic_model.specs.Circuit.{below}
 use Rattle.blic_model.specs.Counts.{claims}
 use Rattle.blic_model.specs.Value.{bit}
 use Rattle.blic_verifier.specs.Holding.{IsFirstDifference, IsTakenAs}
-use Rattle.blic_verifier.proofs.Places.{rows_of_layout, row_of_layout, row_within}
+use Rattle.blic_claims.proofs.Places.{rows_of_layout, row_of_layout, row_within}
 use Rattle.blic_verifier.proofs.LeafWalks.{const_walk}
 use Rattle.blic_verifier.proofs.held.Held.take_const.Goals as goal
 

@@ -4,8 +4,9 @@ use mathlib.Core.Path.{ap₂}
 use Rattle.std.proofs.lemmas.List.{with_items_is}
 use Rattle.blic_claims.specs.Places.{given, places_of}
 use Rattle.blic_verifier.specs.Holding.{WalksTo}
-use Rattle.blic_verifier.proofs.Places.{rows_of_layout, handed_of_layout, row_of_layout, first_of_layout, handed_before_row, row_within, moved, unmoved}
-use Rattle.blic_verifier.proofs.NodeWalks.{fix_child, fix_walk}
+use Rattle.blic_claims.proofs.Places.{rows_of_layout, handed_of_layout, row_of_layout, first_of_layout, handed_before_row, row_within, moved, unmoved}
+use Rattle.blic_claims.proofs.HeldNodes.{fix_child}
+use Rattle.blic_verifier.proofs.NodeWalks.{fix_walk}
 use Rattle.blic_verifier.proofs.held.Held.take_fix.Goals as goal
 
 pub row-row-requires : goal.row-row-requires

@@ -5,8 +5,9 @@ use Rattle.std.proofs.lemmas.List.{with_items_is}
 use Rattle.blic_field.specs.Field.{sub}
 use Rattle.blic_claims.specs.Places.{given, places_of}
 use Rattle.blic_verifier.specs.Holding.{WalksTo}
-use Rattle.blic_verifier.proofs.Places.{rows_of_layout, handed_of_layout, row_of_layout, first_of_layout, handed_before_row, row_within, moved, unmoved}
-use Rattle.blic_verifier.proofs.NodeWalks.{not_child, not_walk}
+use Rattle.blic_claims.proofs.Places.{rows_of_layout, handed_of_layout, row_of_layout, first_of_layout, handed_before_row, row_within, moved, unmoved}
+use Rattle.blic_claims.proofs.HeldNodes.{not_child}
+use Rattle.blic_verifier.proofs.NodeWalks.{not_walk}
 use Rattle.blic_verifier.proofs.held.Held.take_not.Goals as goal
 
 pub row-row-requires : goal.row-row-requires

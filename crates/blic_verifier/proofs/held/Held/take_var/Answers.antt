@@ -5,7 +5,7 @@ use Rattle.blic_model.specs.Counts.{claims}
 use Rattle.blic_claims.specs.Places.{row_at}
 use Rattle.blic_claims.specs.Points.{coordinate}
 use Rattle.blic_verifier.specs.Holding.{IsFirstDifference, IsTakenAs}
-use Rattle.blic_verifier.proofs.Places.{rows_of_layout, row_of_layout, row_within}
+use Rattle.blic_claims.proofs.Places.{rows_of_layout, row_of_layout, row_within}
 use Rattle.blic_verifier.proofs.LeafWalks.{var_width, var_walk}
 use Rattle.blic_verifier.proofs.held.Held.take_var.Goals as goal
 

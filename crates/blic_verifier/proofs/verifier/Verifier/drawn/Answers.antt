@@ -4,7 +4,7 @@ use Rattle.blic_verifier.specs.Verdict.{Talk, with_draw}
 use Rattle.blic_verifier.specs.Standing.{Verifying, StandsFor, claims_waiting}
 use Rattle.blic_verifier.specs.Fitted.{StageFits}
 use Rattle.blic_verifier.specs.declared.stage.Stage.TheVariants.{Ready, Drawing}
-use Rattle.blic_verifier.proofs.Places.{rows_of_layout, row_of_layout, row_within}
+use Rattle.blic_claims.proofs.Places.{rows_of_layout, row_of_layout, row_within}
 use Rattle.blic_verifier.proofs.TakenDraw.{drawn_stands, waiting_is}
 use Rattle.blic_verifier.proofs.verifier.Verifier.drawn.Goals as goal
 

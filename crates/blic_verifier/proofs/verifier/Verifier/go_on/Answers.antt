@@ -5,7 +5,7 @@ use Rattle.blic_verifier.specs.Verdict.{Talked, judged, IsAcceptedAs}
 use Rattle.blic_verifier.specs.Standing.{Verifying, IsReady}
 use Rattle.blic_verifier.specs.Holding.{value_in, WalksTo}
 use Rattle.blic_verifier.specs.Fitted.{IsOnWalk}
-use Rattle.blic_verifier.proofs.Places.{rows_of_layout, row_of_layout}
+use Rattle.blic_claims.proofs.Places.{rows_of_layout, row_of_layout}
 use Rattle.blic_verifier.proofs.Stopping.{walk_stop}
 use Rattle.blic_verifier.proofs.Accepting.{end_said, stop_said}
 use Rattle.blic_verifier.proofs.verifier.Verifier.go_on.Goals as goal

@@ -1,6 +1,6 @@
 use Rattle.std.proofs.Common.{arith, length}
 use Rattle.blic_model.proofs.Shaped.{size_of}
-use Rattle.blic_verifier.proofs.Totals.{few_turns}
+use Rattle.blic_claims.proofs.AllTurns.{few_turns}
 use Rattle.blic_verifier.proofs.verifier.Verifier.new.Goals as goal
 
 pub invariant_of-result : goal.invariant_of-result
@@ -12,5 +12,5 @@ invariant_of-result c =
       room = c.in_ok-held.ensures;
       most = λ k l b. omega (arith, c.most_claims.ensures k l b, c.in-Ok.ensures.len, c.in-Ok.polys.ok);
       at_work = tt;
-      few_turns = few_turns circuit.nodes (length circuit.order) size.1 size.2;
+      few_turns = omega (arith, few_turns circuit.nodes (length circuit.order) size.1 size.2);
     }

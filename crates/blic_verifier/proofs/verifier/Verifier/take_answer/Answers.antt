@@ -9,7 +9,7 @@ use Rattle.blic_verifier.specs.Verdict.{Talked, judged, IsAcceptedAs}
 use Rattle.blic_verifier.specs.Standing.{Verifying}
 use Rattle.blic_verifier.specs.Holding.{WalksTo}
 use Rattle.blic_verifier.specs.Fitted.{IsOnWalk}
-use Rattle.blic_verifier.proofs.Places.{rows_of_layout, row_of_layout}
+use Rattle.blic_claims.proofs.Places.{rows_of_layout, row_of_layout}
 use Rattle.blic_verifier.proofs.TakenAnswer.{root_place, answer_walk}
 use Rattle.blic_verifier.proofs.verifier.Verifier.take_answer.Goals as goal
 

@@ -10,7 +10,7 @@ use Rattle.blic_verifier.specs.Fitted.{StageFits}
 use Rattle.blic_verifier.specs.declared.place.Part.TheVariants.{Poly}
 use Rattle.blic_verifier.specs.declared.next.Next.TheVariants.{Draw, Rejected, WrongCount}
 use Rattle.blic_verifier.specs.declared.stage.Stage.TheVariants.{Ready, Drawing}
-use Rattle.blic_verifier.proofs.Places.{rows_of_layout, row_of_layout, row_within}
+use Rattle.blic_claims.proofs.Places.{rows_of_layout, row_of_layout, row_within}
 use Rattle.blic_verifier.proofs.TakenPolys.{count_said, fault_said, fine_said, fine_stands}
 use Rattle.blic_verifier.proofs.verifier.Verifier.take_polys.Goals as goal
 

@@ -12,7 +12,7 @@ use Rattle.blic_verifier.specs.Fitted.{StageFits, IsOnWalk}
 use Rattle.blic_verifier.specs.declared.place.Part.TheVariants.{Ends, Combine}
 use Rattle.blic_verifier.specs.declared.next.Next.TheVariants.{Done, Rejected}
 use Rattle.blic_verifier.specs.declared.stage.Stage.TheVariants.{Ready}
-use Rattle.blic_verifier.proofs.Places.{rows_of_layout, row_of_layout, row_within}
+use Rattle.blic_claims.proofs.Places.{rows_of_layout, row_of_layout, row_within}
 use Rattle.blic_verifier.proofs.TakenValues.{ends_said, combine_said, on_walk, walk_said, walk_stands, walk_accepted, differ, agree}
 use Rattle.blic_verifier.proofs.verifier.Verifier.take_values.Goals as goal
 

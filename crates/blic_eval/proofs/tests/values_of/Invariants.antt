@@ -1,0 +1,4 @@
+use Rattle.blic_eval.proofs.tests.values_of.Given as goal
+
+abbrev pub ghosts-values_counted : goal.ghosts-values_counted
+ghosts-values_counted a = record { name = a.blank.name; parts = a.blank.parts }

@@ -1,0 +1,4 @@
+pub mod Extension
+pub mod Lines
+pub mod Room
+pub mod Sides

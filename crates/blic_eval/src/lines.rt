@@ -1,0 +1,103 @@
+// The polynomials of a store's functions in the variable of one level.
+ghost use Rattle.std.specs.Prelude.{◌≡◌, ◌+◌, ◌*◌, ◌<◌, ◌≤◌, length};
+ghost use Rattle.blic_field.specs.Field.{blend};
+ghost use Rattle.blic_eval.specs.Lines.{HasLevels, HasLines, IsLine, line_of, point_of};
+
+use blic_basic::Steps;
+use blic_field::Fe;
+use blic_poly2::Lin;
+use blic_store::{Ref, Store};
+use std::sync::ledger::Ledger;
+
+/// The polynomials of all decisions in the variable of `level`, where the other levels are at the
+/// point. At most two products a decision.
+pub(crate) fn fill_lines<L: Ledger>(
+    store: &Store,
+    level: u32,
+    point: &[Fe],
+    lines: &mut [Lin],
+    steps: &mut Steps<L>,
+)
+    requires levels { HasLevels store.now.nodes (length point.now) }
+    requires level { level < length point.now }
+    requires room { length store.now.nodes ≤ length lines.old }
+    ensures lines { HasLines store.now.nodes (length point.now) level (point_of point.now) lines.new (length store.now.nodes) }
+    ensures room { length lines.new ≡ length lines.old }
+    ensures at_most { steps.new ≤ steps.old + 2 * length store.now.nodes }
+    ensures at_least { steps.old ≤ steps.new }
+{
+    for k in 0..store.len() {
+        lines[k as usize] = line_of_decision(store, k, level, point, lines, steps);
+    }
+}
+
+// The polynomial of decision `k`, from those of the decisions before it.
+fn line_of_decision<L: Ledger>(
+    store: &Store,
+    k: u32,
+    level: u32,
+    point: &[Fe],
+    lines: &[Lin],
+    steps: &mut Steps<L>,
+) -> Lin
+    requires k { k < length store.now.nodes }
+    requires levels { HasLevels store.now.nodes (length point.now) }
+    requires level { level < length point.now }
+    requires room { length store.now.nodes ≤ length lines.now }
+    requires before { HasLines store.now.nodes (length point.now) level (point_of point.now) lines.now k }
+    ensures line { IsLine store.now.nodes (length point.now) level (point_of point.now) (k + 2) result }
+    ensures at_most { steps.new ≤ steps.old + 2 }
+    ensures at_least { steps.old ≤ steps.new }
+{
+    store.canonical_law();
+    let r = Ref::numbered(k + 2);
+    let low = line(lines, store.low(r));
+    let high = line(lines, store.high(r));
+    let own = store.level(r);
+    if own < level {
+        Lin::blend(point[own as usize], &low, &high, steps)
+    } else if own == level {
+        Lin {
+            c0: low.c0,
+            c1: high.c0.sub(low.c0),
+        }
+    } else {
+        Lin {
+            c0: blended(point[own as usize], low.c0, high.c0, steps),
+            c1: Fe::ZERO,
+        }
+    }
+}
+
+/// The polynomial of a ref.
+pub(crate) fn line(lines: &[Lin], r: Ref) -> Lin
+    requires { r < length lines.now + 2 }
+    ensures { result ≡ line_of lines.now r }
+{
+    if r == Ref::FALSE {
+        constant(Fe::ZERO)
+    } else if r == Ref::TRUE {
+        constant(Fe::ONE)
+    } else {
+        lines[r.number() as usize - 2]
+    }
+}
+
+/// The polynomial that has the same value everywhere.
+pub(crate) fn constant(value: Fe) -> Lin
+    ensures { result ≡ record { c0 = value; c1 = 0 } }
+{
+    Lin {
+        c0: value,
+        c1: Fe::ZERO,
+    }
+}
+
+/// The value at s on the line that is u at 0 and w at 1, by one product.
+#[tactic(auto, using(blic_poly2::proofs::Values::blend_by_difference))]
+pub(crate) fn blended<L: Ledger>(s: Fe, u: Fe, w: Fe, steps: &mut Steps<L>) -> Fe
+    ensures value { result ≡ blend s u w }
+    ensures count { steps.new ≡ steps.old + 1 }
+{
+    u.add(s.mul(w.sub(u), steps))
+}

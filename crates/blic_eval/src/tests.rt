@@ -1,0 +1,227 @@
+// Polynomials and values of functions of two and three levels, which integers in Python gave.
+ghost use Rattle.std.specs.Prelude.{◌≡◌, ◌<◌, IsTrue, ℕ, length};
+ghost use Rattle.blic_eval.specs.Lines.{HasLevels};
+
+use super::*;
+use blic_apply::Op;
+use blic_basic::Steps;
+use blic_field::{Fe, MODULUS};
+use blic_graph::Graph;
+use blic_poly2::Poly2;
+use blic_store::{Ref, Store};
+use std::alloc::Global;
+use std::marker::Brand;
+use std::sync::ledger::{Blank, Ledger};
+use std::test::Fail;
+
+// Makes the function, where its condition holds.
+fn made(store: &mut Store, level: u32, lo: Ref, hi: Ref) -> Result<Ref, Fail> {
+    if !store.holds(lo) || !store.holds(hi) {
+        return Err("a ref of another store")?;
+    }
+    if store.depth(lo) <= u64::from(level) || store.depth(hi) <= u64::from(level) {
+        return Err("a level above the function's")?;
+    }
+    Ok(store.make(level, lo, hi)?)
+}
+
+// The constant with the value of a bit.
+fn constant(table: u32, k: u32) -> Ref {
+    if k < 32 && (table >> k) & 1 == 1 {
+        Ref::TRUE
+    } else {
+        Ref::FALSE
+    }
+}
+
+// The function of levels 0 to 2 whose value at the point with bits k is bit k of the table.
+fn function(store: &mut Store, table: u32) -> Result<Ref, Fail> {
+    let first = made(store, 2, constant(table, 0), constant(table, 4))?;
+    let second = made(store, 2, constant(table, 1), constant(table, 5))?;
+    let third = made(store, 2, constant(table, 2), constant(table, 6))?;
+    let fourth = made(store, 2, constant(table, 3), constant(table, 7))?;
+    let low = made(store, 1, first, third)?;
+    let high = made(store, 1, second, fourth)?;
+    made(store, 0, low, high)
+}
+
+// The clauses x or y, and not x or not y, of levels 0 and 1.
+fn clauses(store: &mut Store) -> Result<(Ref, Ref), Fail> {
+    let y = made(store, 1, Ref::FALSE, Ref::TRUE)?;
+    let not_y = made(store, 1, Ref::TRUE, Ref::FALSE)?;
+    Ok((
+        made(store, 0, y, Ref::TRUE)?,
+        made(store, 0, Ref::TRUE, not_y)?,
+    ))
+}
+
+fn element(n: u64) -> Result<Fe, Fail> {
+    Ok(Fe::from_u64(n).ok_or("no element")?)
+}
+
+// Whether there are more levels than each decision's.
+fn fits(store: &Store, levels: usize) -> bool
+    ensures { IsTrue result → HasLevels store.now.nodes levels }
+{
+    store.canonical_law();
+    for k in 0..store.len() {
+        if store.level(Ref::numbered(k + 2)) as usize >= levels {
+            return false;
+        }
+    }
+    true
+}
+
+fn poly_counted<L: Ledger>(
+    alloc: Global,
+    store: &Store,
+    op: Op,
+    refs: (Ref, Ref),
+    level: u32,
+    point: &[Fe],
+    blank: Blank,
+) -> Result<Poly2, Fail>
+    requires name { blank.name ≡ L.name }
+    requires parts { blank.parts ≡ L.parts }
+    requires some { 0 < L.parts }
+{
+    let (a, b) = refs;
+    if !store.holds(a) || !store.holds(b) {
+        return Err("a ref of another store")?;
+    }
+    if level as usize >= point.len() || !fits(store, point.len()) {
+        return Err("a level past the point")?;
+    }
+    let graph = Graph::list(alloc, store, a, b, 1000)?;
+    let mut scratch = Scratch::new(alloc, store.len(), graph.len())?;
+    let mut steps = Steps::<L>::new(blank);
+    Ok(poly(
+        &graph,
+        store,
+        op,
+        a,
+        b,
+        level,
+        point,
+        &mut scratch,
+        &mut steps,
+    ))
+}
+
+fn values_counted<L: Ledger>(
+    alloc: Global,
+    store: &Store,
+    refs: (Ref, Ref),
+    point: &[Fe],
+    blank: Blank,
+) -> Result<(Fe, Fe), Fail>
+    requires name { blank.name ≡ L.name }
+    requires parts { blank.parts ≡ L.parts }
+    requires some { 0 < L.parts }
+{
+    let (a, b) = refs;
+    if !store.holds(a) || !store.holds(b) || !fits(store, point.len()) {
+        return Err("a ref of another store, or a level past the point")?;
+    }
+    let mut scratch = Scratch::new(alloc, store.len(), 0)?;
+    let mut steps = Steps::<L>::new(blank);
+    Ok(pair_values(store, a, b, point, &mut scratch, &mut steps))
+}
+
+fn poly_of(
+    alloc: Global,
+    store: &Store,
+    op: Op,
+    refs: (Ref, Ref),
+    level: u32,
+    point: &[Fe],
+) -> Result<(u64, u64, u64), Fail> {
+    let p = poly_counted::<Brand>(alloc, store, op, refs, level, point, Blank::new(1))?;
+    Ok((p.c0.value(), p.c1.value(), p.c2.value()))
+}
+
+fn values_of(
+    alloc: Global,
+    store: &Store,
+    refs: (Ref, Ref),
+    point: &[Fe],
+) -> Result<(u64, u64), Fail> {
+    let (u, w) = values_counted::<Brand>(alloc, store, refs, point, Blank::new(1))?;
+    Ok((u.value(), w.value()))
+}
+
+#[test]
+fn two_clauses_have_their_polynomials_and_values(rt: HostRuntime) -> Result<(), Fail> {
+    let mut store = Store::new(rt.alloc(), 100)?;
+    let both = clauses(&mut store)?;
+    for (level, x, y, expected) in [
+        (1, 3, 0, (3, MODULUS - 5, 0)),
+        (0, 0, 5, (5, MODULUS - 29, 20)),
+    ] {
+        let found = poly_of(
+            rt.alloc(),
+            &store,
+            Op::And,
+            both,
+            level,
+            &[element(x)?, element(y)?],
+        )?;
+        assert_eq!(rt; found, expected, "level {level}");
+    }
+    let found = values_of(rt.alloc(), &store, both, &[element(2)?, element(5)?])?;
+    assert_eq!(rt; found, (MODULUS - 3, MODULUS - 9));
+    Ok(())
+}
+
+#[test]
+fn functions_of_three_levels_are_joined(rt: HostRuntime) -> Result<(), Fail> {
+    for (op, first, second, level, expected) in [
+        (
+            Op::And,
+            0x6a,
+            0x1d,
+            0,
+            (MODULUS - 20306, 41900, MODULUS - 2850),
+        ),
+        (Op::And, 0x6a, 0x1d, 1, (0, MODULUS - 162, 2106)),
+        (Op::Or, 0x6a, 0x1d, 2, (1, 66, MODULUS - 143)),
+        (Op::Or, 0xca, 0x96, 0, (37347, MODULUS - 77706, 6300)),
+        (
+            Op::Or,
+            0xca,
+            0x96,
+            1,
+            (MODULUS - 1254, 4544, MODULUS - 4225),
+        ),
+        (Op::And, 0xca, 0x96, 2, (MODULUS - 70, 151, MODULUS - 4)),
+        (Op::And, 0xaa, 0xf0, 1, (91, 0, 0)),
+        (Op::Or, 0xf0, 0xcc, 0, (MODULUS - 119, 0, 0)),
+        (Op::And, 0xff, 0x96, 1, (MODULUS - 162, 325, 0)),
+        (Op::Or, 0xff, 0x96, 1, (1, 0, 0)),
+        (Op::And, 0, 0x96, 2, (0, 0, 0)),
+        (Op::Or, 0x96, 0, 0, (MODULUS - 262, 525, 0)),
+    ] {
+        let mut store = Store::new(rt.alloc(), 100)?;
+        let refs = (function(&mut store, first)?, function(&mut store, second)?);
+        let point = [element(7)?, element(11)?, element(13)?];
+        let found = poly_of(rt.alloc(), &store, op, refs, level, &point)?;
+        assert_eq!(rt; found, expected, "{first} and {second} at {level}");
+    }
+    Ok(())
+}
+
+#[test]
+fn functions_of_three_levels_have_their_values(rt: HostRuntime) -> Result<(), Fail> {
+    for (first, second, expected) in [
+        (0x6a, 0x1d, (MODULUS - 1852, MODULUS - 72)),
+        (0x96, 0xff, (3413, 1)),
+        (0, 0x96, (0, 3413)),
+    ] {
+        let mut store = Store::new(rt.alloc(), 100)?;
+        let refs = (function(&mut store, first)?, function(&mut store, second)?);
+        let point = [element(7)?, element(11)?, element(13)?];
+        let found = values_of(rt.alloc(), &store, refs, &point)?;
+        assert_eq!(rt; found, expected, "{first} and {second}");
+    }
+    Ok(())
+}

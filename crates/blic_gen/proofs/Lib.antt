@@ -1,0 +1,2 @@
+pub mod ChainFormula
+pub mod Pushed

@@ -1,0 +1,4 @@
+pub mod DrawnPoints
+pub mod NodeValues
+pub mod Polynomials
+pub mod StoredPoints

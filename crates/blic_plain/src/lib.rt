@@ -1,0 +1,12 @@
+//! Answers about a circuit by the recursion that the definitions are, without memory.
+#![tactic(auto)]
+
+mod chain;
+mod plain;
+mod poly;
+mod value;
+
+pub use plain::Plain;
+
+#[cfg(test)]
+mod tests;

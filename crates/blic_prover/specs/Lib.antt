@@ -1,0 +1,4 @@
+pub mod Fitted
+pub mod Honest
+pub mod Moves
+pub mod Standing

@@ -1,0 +1,241 @@
+-- A conversation in which each reply is the honest one.
+use Rattle.std.proofs.Common.{arith, ℕ, zero, suc, ◌≡◌, ◌+◌, ◌<◌, ◌≤◌, refl, sym, ◌∙◌, ap, subst, inl, inr, List, [], ◌∷◌, ◌++◌, length, get_or, Bool, true, false, cond, eqb}
+use Rattle.std.specs.Prelude.{All, Option, Some, None, filter, find, take, not}
+use Rattle.std.proofs.lemmas.Bool.{cases_eq, cases_Bool, eq-eqb, ne_eqb, cond-true, cond-false}
+use Rattle.std.proofs.lemmas.List.{length_push}
+use Rattle.std.proofs.lemmas.List.Elements.{All-append, All-cons, All-nil, All-head, All-tail}
+use Rattle.blic_field.specs.Field.{modulus}
+use Rattle.blic_model.specs.declared.node.Node.{Node}
+use Rattle.blic_model.specs.Circuit.{OrderedCircuit, table}
+use Rattle.blic_model.specs.Shape.{IsShaped}
+use Rattle.blic_model.specs.Counts.{claims}
+use Rattle.blic_model.proofs.Entries.{get-table}
+use Rattle.blic_model.proofs.Ordered.{ordered_all}
+use Rattle.blic_model.proofs.Shaped.{ordered_of}
+use Rattle.blic_messages.specs.Replies.{Said}
+use Rattle.blic_messages.specs.declared.ask.Ask.{Ask}
+use Rattle.blic_claims.specs.Turns.{Turn, ForPolys, ForValues, Reply, Polys, Values, Fits, turns, transcript, no_reply, polys_of, values_of, polys_number, values_number, is_polys, wants_draw_after}
+use Rattle.blic_claims.specs.Honest.{honest_answer, honest_replies}
+use Rattle.blic_claims.proofs.Drawn.{levelled_from_shape}
+use Rattle.blic_claims.proofs.HonestReplies.{honest_entry, honest_upto}
+use Rattle.blic_claims.proofs.SomeClaim.{some_claim_law}
+use Rattle.blic_claims.proofs.Turns.{binary_inside, polys_below, values_below}
+use Rattle.blic_verifier.specs.Acceptance.{Check, checks, fails}
+use Rattle.blic_verifier.specs.Verdict.{Talk, Silent, Talked, fault_upto, judged, judged_at, verdict}
+use Rattle.blic_verifier.specs.Conversation.{Position, Awaits, Ended, Certified, go_on, read_on, position_after, beginning, honest_reply, said_of, AreHonest, GoesOnOrAccepts}
+use Rattle.blic_verifier.specs.HonestLaws.{HonestConversationAccepts}
+use Rattle.blic_verifier.specs.declared.next.Next.{Next}
+use Rattle.blic_verifier.specs.declared.next.Next.TheVariants.{Draw, Go, Done}
+use Rattle.blic_verifier.proofs.FaultKept.{draws_before, draws_before_rise}
+use Rattle.blic_verifier.proofs.HonestEntries.{entry_is, honest_reply_fits, length-replies, replies_more, reply_at}
+use Rattle.blic_verifier.proofs.HonestPasses.{honest_passes}
+use Rattle.blic_verifier.proofs.Judging.{judged_fine}
+use Rattle.blic_verifier.proofs.OfElements.{draw_element}
+use Rattle.blic_verifier.proofs.Settling.{settled}
+use Rattle.blic_verifier.proofs.ShownKept.{Agree, checks_kept, is_shown}
+
+-- of conditions that hold none fails
+none_fails : (cs : List Check) (n : ℕ) → All (λ c. c.left ≡ c.right) cs → find fails (filter (is_shown n) cs) ≡ None
+none_fails [] n h = refl
+none_fails (c ∷ cs) n h = go (is_shown n c) (none_fails cs n (All-tail (λ c. c.left ≡ c.right) c cs h))
+  where
+    go : (b : Bool) → find fails (filter (is_shown n) cs) ≡ None → find fails (cond b (c ∷ filter (is_shown n) cs) (filter (is_shown n) cs)) ≡ None
+    go false e = e
+    go true e =
+        ap (λ z. cond (not z) (Some c) (find fails (filter (is_shown n) cs))) (eq-eqb c.left c.right (All-head (λ c. c.left ≡ c.right) c cs h)) ∙ e
+
+-- the first m honest replies are those of the whole conversation
+agree_whole : (nodes : List Node) (levels : ℕ) (draws : List ℕ) (m : ℕ)
+    → Agree nodes levels (honest_upto nodes levels draws m) (honest_upto nodes levels draws (length (turns nodes levels))) (suc m)
+unfolding transcript
+agree_whole nodes levels draws m = record {
+  answers = refl;
+  values = λ k b h. ap values_of (same (values_number nodes levels k) (omega arith) (values_below nodes levels k (binary_inside nodes k b) b));
+  polys = λ k i b l h. ap polys_of (same (polys_number nodes levels k i) (omega arith) (polys_below nodes levels k i (binary_inside nodes k b) b l));
+  draws = λ k i b l h. refl;
+}
+  where
+    same : (t : ℕ) → t < m → t < length (turns nodes levels)
+        → get_or (table (honest_entry nodes levels draws) m) t no_reply ≡ get_or (table (honest_entry nodes levels draws) (length (turns nodes levels))) t no_reply
+    same t l h = get-table (honest_entry nodes levels draws) no_reply m t l ∙ sym (get-table (honest_entry nodes levels draws) no_reply (length (turns nodes levels)) t h)
+
+no_fault : (nodes : List Node) (levels : ℕ) → IsShaped nodes levels → (draws : List ℕ) → All (λ r. r < modulus) draws → (m : ℕ)
+    → fault_upto nodes levels (transcript nodes levels (honest_answer nodes levels) draws (honest_replies nodes levels draws m)) (suc m) ≡ None
+unfolding honest_replies
+no_fault nodes levels shaped draws d m =
+    ap (find fails) (checks_kept nodes levels (honest_upto nodes levels draws m) (honest_upto nodes levels draws (length (turns nodes levels))) (suc m) (agree_whole nodes levels draws m))
+    ∙ none_fails (checks nodes levels (honest_upto nodes levels draws (length (turns nodes levels)))) (suc m)
+    (honest_passes nodes levels (ordered_all nodes (ordered_of nodes levels shaped)) (levelled_from_shape nodes levels shaped) draws (draw_element draws d) (some_claim_law nodes levels shaped))
+
+-- what stands after m replies of which none is refused
+abbrev what_stands : List Node → ℕ → ℕ → Next
+what_stands nodes levels m =
+    cond (eqb m (length (turns nodes levels))) (Done (honest_answer nodes levels)) (cond (wants_draw_after (turns nodes levels) m) Draw Go)
+
+judged_honest : (nodes : List Node) (levels : ℕ) → IsShaped nodes levels → (draws : List ℕ) → All (λ r. r < modulus) draws → (m : ℕ)
+    → judged nodes levels (honest_answer nodes levels) draws (honest_replies nodes levels draws m) ≡ what_stands nodes levels m
+judged_honest nodes levels shaped draws d m =
+    let long = length-replies nodes levels draws m in
+    judged_fine nodes levels (honest_answer nodes levels) draws (honest_replies nodes levels draws m)
+    (ap (λ n. fault_upto nodes levels (transcript nodes levels (honest_answer nodes levels) draws (honest_replies nodes levels draws m)) (suc n)) long
+    ∙ no_fault nodes levels shaped draws d m)
+    ∙ ap (what_stands nodes levels) long
+
+fits_judged : (nodes : List Node) (t : ℕ) (u : Turn) (r : Reply) (next : Next) → Fits nodes u r → judged_at nodes t u r next ≡ next
+fits_judged nodes t (ForPolys k i) (Polys ps) next h = cond-true _ next _ (eq-eqb (length ps) (claims nodes k) h)
+fits_judged nodes t (ForPolys k i) (Values u w) next h = absurd h
+fits_judged nodes t (ForValues k) (Polys ps) next h = absurd h
+fits_judged nodes t (ForValues k) (Values u w) next h = refl
+
+-- a talk whose replies are honest, and which isn't at its end
+pub record IsHonestTalk (nodes : List Node) (levels : ℕ) (answer : Bool) (draws : List ℕ) (replies : List Reply) : Type 0 where
+  pub right : answer ≡ honest_answer nodes levels
+  pub said : replies ≡ honest_replies nodes levels draws (length replies)
+  pub elements : All (λ r. r < modulus) draws
+  pub left : length replies < length (turns nodes levels)
+  pub drawn : draws_before nodes levels (length replies) ≤ length draws
+
+abbrev IsHonestPosition : OrderedCircuit → Position → Type 0
+IsHonestPosition c (Awaits ask Silent n) = Unit {0}
+IsHonestPosition c (Awaits ask (Talked a draws replies) n) = IsHonestTalk c.nodes (length c.order) a draws replies
+IsHonestPosition c (Ended e) = e ≡ Certified (honest_answer c.nodes (length c.order))
+
+-- a draw more at most
+draws_step : (ts : List Turn) (t : ℕ)
+    → length (filter is_polys (take (suc t) ts)) ≤ length (filter is_polys (take t ts)) + cond (is_polys (get_or ts t (ForValues 0))) 1 0
+draws_step [] zero = omega arith
+draws_step [] (suc t) = omega arith
+draws_step (u ∷ ts) zero = go (is_polys u)
+  where
+    go : (b : Bool) → length (cond b (u ∷ []) []) ≤ 0 + cond b 1 0
+    go true = omega arith
+    go false = omega arith
+draws_step (u ∷ ts) (suc t) = go (is_polys u) (draws_step ts t)
+  where
+    go : (b : Bool) → length (filter is_polys (take (suc t) ts)) ≤ length (filter is_polys (take t ts)) + cond (is_polys (get_or ts t (ForValues 0))) 1 0
+        → length (cond b (u ∷ filter is_polys (take (suc t) ts)) (filter is_polys (take (suc t) ts)))
+        ≤ length (cond b (u ∷ filter is_polys (take t ts)) (filter is_polys (take t ts))) + cond (is_polys (get_or ts t (ForValues 0))) 1 0
+    go true h = omega arith
+    go false h = h
+
+more_draws : (nodes : List Node) (levels t : ℕ) (b : Bool) → is_polys (get_or (turns nodes levels) t (ForValues 0)) ≡ b
+    → draws_before nodes levels (suc t) ≤ draws_before nodes levels t + cond b 1 0
+more_draws nodes levels t b e = subst (λ z. draws_before nodes levels (suc t) ≤ draws_before nodes levels t + cond z 1 0) e (draws_step (turns nodes levels) t)
+
+-- the position after t + 1 honest replies, of which the last was right in its turn
+go_on_more : (c : OrderedCircuit) (draw : ℕ → ℕ) → ((n : ℕ) → draw n < modulus) → (draws : List ℕ) (replies : List Reply) (n t : ℕ)
+    → t < length (turns c.nodes (length c.order)) → replies ≡ honest_replies c.nodes (length c.order) draws (suc t) → All (λ r. r < modulus) draws
+    → draws_before c.nodes (length c.order) t ≤ length draws
+    → IsHonestPosition c (go_on draw (Talked (honest_answer c.nodes (length c.order)) draws replies) n (what_stands c.nodes (length c.order) (suc t)))
+go_on_more c draw below draws replies n t l said elements drawn = elim (cases_eq (suc t) (length (turns c.nodes (length c.order)))) [
+  | inl e ↦ subst there (sym (cond-true _ _ _ (eq-eqb (suc t) (length (turns c.nodes (length c.order))) e))) refl
+  | inr ne ↦ subst there (sym (cond-false _ _ _ (ne_eqb (suc t) (length (turns c.nodes (length c.order))) ne))) (elim (cases_Bool (is_polys (get_or (turns c.nodes (length c.order)) t (ForValues 0)))) [
+    | inl b ↦ subst (λ z. there (cond z Draw Go)) (sym b) (record {
+      right = refl;
+      said = said ∙ (sym (settled c.nodes (length c.order) draws (draw n ∷ []) (suc t) l earlier) ∙ ap (honest_replies c.nodes (length c.order) (draws ++ draw n ∷ [])) (sym long));
+      elements = All-append (λ r. r < modulus) draws (draw n ∷ []) elements (All-cons (λ r. r < modulus) (draw n) [] (below n) (All-nil (λ r. r < modulus)));
+      left = omega (arith, long);
+      drawn = (let count = more_draws c.nodes (length c.order) t true b in omega (arith, ap (draws_before c.nodes (length c.order)) long, length_push draws (draw n)));
+    })
+    | inr b ↦ subst (λ z. there (cond z Draw Go)) (sym b) (record {
+      right = refl;
+      said = said ∙ ap (honest_replies c.nodes (length c.order) draws) (sym long);
+      elements = elements;
+      left = omega (arith, long);
+      drawn = (let count = more_draws c.nodes (length c.order) t false b in omega (arith, ap (draws_before c.nodes (length c.order)) long));
+    })
+  ])
+]
+  where
+    there : Next → Type 0
+    there next = IsHonestPosition c (go_on draw (Talked (honest_answer c.nodes (length c.order)) draws replies) n next)
+
+    long : length replies ≡ suc t
+    long = ap length said ∙ length-replies c.nodes (length c.order) draws (suc t)
+
+    earlier : (s : ℕ) → s < suc t → draws_before c.nodes (length c.order) s ≤ length draws
+    earlier s h = let rise = draws_before_rise c.nodes (length c.order) s t (omega arith) in omega arith
+
+none_said : (nodes : List Node) (levels : ℕ) (draws : List ℕ) → honest_replies nodes levels draws 0 ≡ []
+unfolding honest_replies table
+none_said nodes levels draws = refl
+
+-- the position after the answer
+first_step : (c : OrderedCircuit) → IsShaped c.nodes (length c.order) → (draw : ℕ → ℕ) (n : ℕ)
+    → IsHonestPosition c (go_on draw (Talked (honest_answer c.nodes (length c.order)) [] []) n (judged c.nodes (length c.order) (honest_answer c.nodes (length c.order)) [] []))
+first_step c shaped draw n =
+    let nodes = c.nodes in
+    let levels = length c.order in
+    let stands : judged nodes levels (honest_answer nodes levels) [] [] ≡ what_stands nodes levels 0 =
+    ap (judged nodes levels (honest_answer nodes levels) []) (sym (none_said nodes levels [])) ∙ judged_honest nodes levels shaped [] (All-nil (λ r. r < modulus)) 0 in
+    subst there (sym stands) (elim (cases_eq 0 (length (turns nodes levels))) [
+      | inl e ↦ subst there (sym (cond-true _ _ _ (eq-eqb 0 (length (turns nodes levels)) e))) refl
+      | inr ne ↦ subst there (sym (cond-false _ _ _ (ne_eqb 0 (length (turns nodes levels)) ne))) (record {
+        right = refl;
+        said = sym (none_said nodes levels []);
+        elements = All-nil (λ r. r < modulus);
+        left = omega arith;
+        drawn = omega arith;
+      })
+    ])
+  where
+    there : Next → Type 0
+    there next = IsHonestPosition c (go_on draw (Talked (honest_answer c.nodes (length c.order)) [] []) n next)
+
+read_reply : (c : OrderedCircuit) (draw : ℕ → ℕ) (ask : Ask) (a : Bool) (draws : List ℕ) (replies : List Reply) (n : ℕ) (r : Reply)
+    → read_on c draw (Awaits ask (Talked a draws replies) n) (Some (said_of r)) ≡ go_on draw (Talked a draws (replies ++ r ∷ [])) n (verdict c.nodes (length c.order) a draws replies r)
+read_reply c draw ask a draws replies n (Polys ps) = refl
+read_reply c draw ask a draws replies n (Values u w) = refl
+
+-- the verdict on the next honest reply
+next_verdict : (nodes : List Node) (levels : ℕ) → IsShaped nodes levels → (draws : List ℕ) (replies : List Reply) (r : Reply)
+    → IsHonestTalk nodes levels (honest_answer nodes levels) draws replies
+    → r ≡ get_or (honest_replies nodes levels draws (suc (length replies))) (length replies) no_reply
+    → replies ++ r ∷ [] ≡ honest_replies nodes levels draws (suc (length replies))
+    → verdict nodes levels (honest_answer nodes levels) draws replies r ≡ what_stands nodes levels (suc (length replies))
+unfolding verdict
+next_verdict nodes levels shaped draws replies r h is more =
+    let t = length replies in
+    let fits = subst (Fits nodes (get_or (turns nodes levels) t (ForValues 0))) (sym is) (honest_reply_fits nodes levels shaped draws h.elements t h.left).0 in
+    fits_judged nodes (suc t) (get_or (turns nodes levels) t (ForValues 0)) r _ fits
+    ∙ (ap (judged nodes levels (honest_answer nodes levels) draws) more ∙ judged_honest nodes levels shaped draws h.elements (suc t))
+
+talk_step : (c : OrderedCircuit) → IsShaped c.nodes (length c.order) → (draw : ℕ → ℕ) → ((n : ℕ) → draw n < modulus) → (ask : Ask) (draws : List ℕ) (replies : List Reply) (n : ℕ)
+    → IsHonestTalk c.nodes (length c.order) (honest_answer c.nodes (length c.order)) draws replies
+    → IsHonestPosition c (read_on c draw (Awaits ask (Talked (honest_answer c.nodes (length c.order)) draws replies) n)
+    (Some (honest_reply c (Talked (honest_answer c.nodes (length c.order)) draws replies))))
+talk_step c shaped draw below ask draws replies n h =
+    let nodes = c.nodes in
+    let levels = length c.order in
+    let b = honest_answer nodes levels in
+    let t = length replies in
+    let r = get_or (honest_replies nodes levels draws (suc t)) t no_reply in
+    let more : replies ++ r ∷ [] ≡ honest_replies nodes levels draws (suc t) =
+    ap (λ z. replies ++ z ∷ []) (entry_is nodes levels draws (suc t) t (omega arith))
+    ∙ (ap (λ z. z ++ reply_at nodes levels draws t ∷ []) h.said ∙ sym (replies_more nodes levels draws t)) in
+    subst (IsHonestPosition c) (sym (read_reply c draw ask b draws replies n r))
+    (subst (λ z. IsHonestPosition c (go_on draw (Talked b draws (replies ++ r ∷ [])) n z)) (sym (next_verdict nodes levels shaped draws replies r h refl more))
+    (go_on_more c draw below draws (replies ++ r ∷ []) n t h.left more h.elements h.drawn))
+
+step : (c : OrderedCircuit) → IsShaped c.nodes (length c.order) → (draw : ℕ → ℕ) → ((n : ℕ) → draw n < modulus) → (ask : Ask) (talk : Talk) (n : ℕ)
+    → IsHonestPosition c (Awaits ask talk n) → IsHonestPosition c (read_on c draw (Awaits ask talk n) (Some (honest_reply c talk)))
+step c shaped draw below ask Silent n h = first_step c shaped draw n
+step c shaped draw below ask (Talked a draws replies) n h =
+    subst (λ z. IsHonestTalk c.nodes (length c.order) z draws replies → IsHonestPosition c (read_on c draw (Awaits ask (Talked z draws replies) n) (Some (honest_reply c (Talked z draws replies)))))
+    (sym h.right) (talk_step c shaped draw below ask draws replies n) h
+
+at_end : (c : OrderedCircuit) (p : Position) → IsHonestPosition c p → GoesOnOrAccepts (honest_answer c.nodes (length c.order)) p
+at_end c (Awaits ask Silent n) h = tt
+at_end c (Awaits ask (Talked a draws replies) n) h = tt
+at_end c (Ended e) h = h
+
+keeps : (c : OrderedCircuit) → IsShaped c.nodes (length c.order) → (draw : ℕ → ℕ) → ((n : ℕ) → draw n < modulus) → (readings : List (Option Said)) (p : Position)
+    → IsHonestPosition c p → AreHonest c draw p readings → GoesOnOrAccepts (honest_answer c.nodes (length c.order)) (position_after c draw p readings)
+keeps c shaped draw below [] p h honest = at_end c p h
+keeps c shaped draw below (r ∷ rs) (Ended e) h honest = absurd honest
+keeps c shaped draw below (r ∷ rs) (Awaits ask talk n) h honest =
+    keeps c shaped draw below rs (read_on c draw (Awaits ask talk n) r)
+    (subst (λ z. IsHonestPosition c (read_on c draw (Awaits ask talk n) z)) (sym honest.0) (step c shaped draw below ask talk n h)) honest.1
+
+pub honest_way : HonestConversationAccepts
+honest_way c shaped draw below h readings honest = keeps c shaped draw below readings (beginning h) tt honest

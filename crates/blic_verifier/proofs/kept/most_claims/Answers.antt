@@ -1,6 +1,0 @@
-use Rattle.std.proofs.Common.{arith}
-use Rattle.blic_verifier.proofs.Places.{rows_of_layout}
-use Rattle.blic_verifier.proofs.kept.most_claims.Goals as goal
-
-pub claims-requires : goal.claims-requires
-claims-requires c = omega (arith, rows_of_layout c.args.circuit.now c.args.layout.now c.requires)
