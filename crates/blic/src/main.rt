@@ -1,7 +1,7 @@
-//! The program `blic`: it hands its words, the files and standard output to `run`.
+//! The program `blic`: it hands its words, the files, random bytes and standard output to `run`.
 #![tactic(auto)]
 
-use blic_basic::{RealFiles, StdoutSink, Wrote, write_all_counted};
+use blic_basic::{NoWatch, RandomFile, RealFiles, StdoutSink, Wrote, write_all_counted};
 use blic_top::run;
 use std::process::ExitCode;
 use std::rt::Env;
@@ -10,8 +10,17 @@ use std::{env, io};
 fn main(rt: HostRuntime) -> ExitCode {
     let mut out = StdoutSink::new(io::writer(&rt));
     let mut files = RealFiles::new(&rt);
+    let mut entropy = RandomFile::new(&rt);
+    let mut watch = NoWatch::new();
     let status = match words(&rt) {
-        Ok(words) => run(rt.alloc(), &words, &mut files, &mut out),
+        Ok(words) => run(
+            rt.alloc(),
+            &words,
+            &mut files,
+            &mut entropy,
+            &mut watch,
+            &mut out,
+        ),
         Err(error) if error.kind() == io::ErrorKind::OutOfMemory => {
             match write_all_counted(&mut out, b"c want of memory\n") {
                 Wrote::All => 9,
@@ -19,7 +28,14 @@ fn main(rt: HostRuntime) -> ExitCode {
             }
         }
         // A word that is no text fits no command.
-        Err(_) => run(rt.alloc(), &Vec::new(rt.alloc()), &mut files, &mut out),
+        Err(_) => run(
+            rt.alloc(),
+            &Vec::new(rt.alloc()),
+            &mut files,
+            &mut entropy,
+            &mut watch,
+            &mut out,
+        ),
     };
     ExitCode::from(status)
 }

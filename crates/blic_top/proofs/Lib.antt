@@ -1,7 +1,15 @@
+mod Certified
 mod Clauses
+mod Exchanging
+mod Following
+mod Honesty
 mod Numbers
+mod Onward
 mod Parsing
-mod Pushed
+mod Printed
+mod Replying
 mod Saying
 mod Solving
+mod Starting
+mod Texts
 mod Truth

@@ -1,41 +1,41 @@
 -- From what the calls below answer to what may be said.
-use Rattle.std.proofs.Common.{◌≡◌, ◌≢◌, ℕ, List, Option, Some, None, refl, ◌∙◌, ◌⊎◌, inl, inr, subst}
-use Rattle.std.specs.Prelude.{IfSome, IsSomeAnd, Err}
+use Rattle.std.proofs.Common.{◌≡◌, ◌≢◌, ℕ, List, [], Option, Some, None, refl, sym, ◌∙◌, ap, inl, inr, subst, Bool, true, false, cond, take}
+use Rattle.std.specs.Prelude.{IfSome, IsSomeAnd, IfOk, Result, Ok, Err}
+use Rattle.std.specs.Io.KnownBytes.{append_known}
 use Rattle.blic_basic.specs.Opening.{Opens}
 use Rattle.blic_basic.specs.declared.files.Opened.TheVariants as opened
 use Rattle.blic_model.specs.Formula.{PrenexFormula}
-use Rattle.blic_qdimacs.specs.Meaning.{meaning}
+use Rattle.blic_model.specs.Limits.{IsFormula}
+use Rattle.blic_qdimacs.specs.Meaning.{meaning, Spells}
 use Rattle.blic_qdimacs.specs.Reading.{Reads}
 use Rattle.blic_qdimacs.specs.declared.error.ReadError.{ReadError}
 use Rattle.blic_qdimacs.specs.declared.error.ReadError.TheVariants as errors
-use Rattle.blic_top.specs.Words.{SolveWords}
-use Rattle.blic_top.specs.Means.{Means, SaysOfFile, SaysOfFormula, MayRefuse, IsFileOf}
-use Rattle.blic_top.specs.Ends.{Says, IsTold, OutcomeCounts}
-use Rattle.blic_top.specs.Outcome.{status_of}
+use Rattle.blic_top.specs.Words.{SolveWords, CertifyWords, Request, Solve, Certify}
+use Rattle.blic_top.specs.World.{World, IsQuiet, IsSeed}
+use Rattle.blic_top.specs.OfFile.{IsFileOf, MayRefuse}
+use Rattle.blic_top.specs.Certifying.{CertifiesFormula, HasConversed, IsConversing}
+use Rattle.blic_top.specs.Means.{Means, SaysOfFormula}
+use Rattle.blic_top.specs.Ends.{Says, lines_before}
+use Rattle.blic_top.specs.Deciding.{Decides, DecidesOfFormula, ReadsFile, SolvesFile}
+use Rattle.blic_top.specs.Outcome.{text_of}
+use Rattle.blic_top.specs.Printing.{talk_text}
 use Rattle.blic_top.specs.declared.outcome.Outcome.{Outcome}
-use Rattle.blic_top.specs.declared.outcome.Outcome.TheVariants.{Usage, NotRead, TooManyClaims, TooManyPoints, TooManyPairs, TooManyNodes, NoMemory, Solved}
+use Rattle.blic_top.specs.declared.outcome.Outcome.TheVariants.{Usage, NotRead, TooManyClaims, TooManyPoints, TooManyPairs, TooManyNodes, EntropyFault, NoMemory, Solved, Certified as CertifiedOutcome, NotCertified}
+use Rattle.blic_verifier.specs.Conversation.{Ending}
+use Rattle.blic_top.proofs.Onward.{nothing_more, shows_none}
+use Rattle.blic_top.proofs.Printed.{front_after}
+
+-- ---- reading a file
 
 told_bytes : (told left : Option (List ℕ)) (P : List ℕ → Type 0) → IsSomeAnd told (λ bytes. left ≡ Some bytes) → IfSome left P → IsSomeAnd told P
 told_bytes None left P is_left holds = absurd is_left
 told_bytes (Some bytes) left P is_left holds = subst (λ o. IfSome o P) is_left holds
 
 -- what holds of the bytes of a source holds of those of the file that it was opened from
-pub of_source : {S : Type 0} (left : S → Option (List ℕ)) (faults : S → ℕ) (files : Option (List ℕ → Option (List ℕ))) (name : List ℕ) (s : S)
+of_source : {S : Type 0} (left : S → Option (List ℕ)) (faults : S → ℕ) (files : Option (List ℕ → Option (List ℕ))) (name : List ℕ) (s : S)
     (P : List ℕ → Type 0) → Opens left faults files name (opened.Source s) → IfSome (left s) P → IfSome files (λ file. IsSomeAnd (file name) P)
 of_source left faults None name s P opens holds = tt
 of_source left faults (Some file) name s P opens holds = told_bytes (file name) (left s) P opens.0 holds
-
--- what may be said of a formula may be said of its file
-pub of_formula : (files : Option (List ℕ → Option (List ℕ))) (words : SolveWords) (f : PrenexFormula) (outcome : Outcome) → IsFileOf f files words.file
-    → SaysOfFormula f words.limits outcome → SaysOfFile files words outcome
-of_formula files words f Usage is_file says = says
-of_formula files words f (NotRead error) is_file says = absurd says
-of_formula files words f (TooManyClaims k count) is_file says = (f, is_file, says)
-of_formula files words f (TooManyPoints count) is_file says = (f, is_file, says)
-of_formula files words f (TooManyPairs k) is_file says = (f, is_file, says)
-of_formula files words f (TooManyNodes k) is_file says = (f, is_file, says)
-of_formula files words f NoMemory is_file says = tt
-of_formula files words f (Solved t vars clauses) is_file says = (f, is_file, says)
 
 as_refused : (told : Option (List ℕ)) (error : ReadError) → error ≢ errors.Fault → error ≢ errors.NoMem
     → IsSomeAnd told (λ bytes. Reads (Err error) (meaning bytes)) → IsSomeAnd told (λ bytes. meaning bytes ≡ Err error)
@@ -49,41 +49,121 @@ refused_file None name error no_fault no_want reads = tt
 refused_file (Some file) name error no_fault no_want reads = as_refused (file name) error no_fault no_want reads
 
 -- an error of the reader may be said of the file
-pub of_error : (files : Option (List ℕ → Option (List ℕ))) (name : List ℕ) (error : ReadError)
+of_error : (files : Option (List ℕ → Option (List ℕ))) (name : List ℕ) (error : ReadError)
     → IfSome files (λ file. IsSomeAnd (file name) (λ bytes. Reads (Err error) (meaning bytes))) → MayRefuse files name error
 of_error files name errors.Fault reads = tt
 of_error files name errors.NoMem reads = tt
 of_error files name error reads = refused_file files name error (λ e. cc) (λ e. cc) reads
 
-no_memory : (words : Option SolveWords) (files : Option (List ℕ → Option (List ℕ))) → Means words files NoMemory
-no_memory None files = tt
-no_memory (Some words) files = tt
+-- what reading a source answers may be said of the file that it was opened from
+pub reads_by : {S : Type 0} (left : S → Option (List ℕ)) (faults : S → ℕ) (files : Option (List ℕ → Option (List ℕ))) (name : List ℕ) (s : S)
+    (result : Result PrenexFormula ReadError) → Opens left faults files name (opened.Source s) → IfOk result (λ f. IsFormula f)
+    → IfSome (left s) (λ bytes. Reads result (meaning bytes)) → ReadsFile files name result
+reads_by left faults files name s (Ok f) opens formula exact = (formula, of_source left faults files name s (λ bytes. Spells bytes f) opens exact)
+reads_by left faults files name s (Err error) opens formula exact =
+    of_error files name error (of_source left faults files name s (λ bytes. Reads (Err error) (meaning bytes)) opens exact)
 
--- what is told has come
-pub says_by : (words : Option SolveWords) (files : Option (List ℕ → Option (List ℕ))) (outcome : Outcome) (status : ℕ) (old new : Option (List ℕ))
-    → Means words files outcome → IsTold outcome status old new ⊎ IsTold NoMemory status old new → Says words files status old new
-says_by words files outcome status old new means told =
-    elim told [ inl whole ↦ (outcome, means, whole) | inr want ↦ (NoMemory, no_memory words files, want) ]
+-- ---- solving
 
--- an outcome that is no read fault leaves the count of the files
-counts_of : (before now : ℕ) (outcome : Outcome) → OutcomeCounts before now outcome → (status_of outcome ≡ 3 → ⊥) → now ≡ before
-counts_of before now Usage counts calm = counts
-counts_of before now (NotRead errors.Fault) counts calm = absurd (calm refl)
-counts_of before now (NotRead error) counts calm = counts
-counts_of before now (TooManyClaims k count) counts calm = counts
-counts_of before now (TooManyPoints count) counts calm = counts
-counts_of before now (TooManyPairs k) counts calm = counts
-counts_of before now (TooManyNodes k) counts calm = counts
-counts_of before now NoMemory counts calm = counts
-counts_of before now (Solved t vars clauses) counts calm = counts
+-- what may be said of a formula may be said of its file
+pub of_formula : (files : Option (List ℕ → Option (List ℕ))) (w : SolveWords) (f : PrenexFormula) (outcome : Outcome) → IsFileOf f files w.file
+    → SaysOfFormula f w.limits outcome → SolvesFile files w outcome
+of_formula files w f Usage is_file says = absurd says
+of_formula files w f (NotRead error) is_file says = absurd says
+of_formula files w f (TooManyClaims k count) is_file says = (f, is_file, says)
+of_formula files w f (TooManyPoints count) is_file says = (f, is_file, says)
+of_formula files w f (TooManyPairs k) is_file says = (f, is_file, says)
+of_formula files w f (TooManyNodes k) is_file says = (f, is_file, says)
+of_formula files w f EntropyFault is_file says = absurd says
+of_formula files w f NoMemory is_file says = (f, is_file, says)
+of_formula files w f (Solved t vars clauses) is_file says = (f, is_file, says)
+of_formula files w f (CertifiedOutcome t vars clauses draws bad) is_file says = absurd says
+of_formula files w f (NotCertified failure) is_file says = absurd says
 
--- no fault of the files is passed over, unless another cause is told in its place
-pub passes_no_fault_by : (before now : ℕ) (outcome : Outcome) (status : ℕ) (old new : Option (List ℕ)) → OutcomeCounts before now outcome
-    → IsTold outcome status old new ⊎ IsTold NoMemory status old new → status ≢ 3 → status ≢ 4 → status ≢ 9 → now ≡ before
-passes_no_fault_by before now outcome status old new counts told no_read no_write no_want =
-    elim told [
-      | inl (inl whole) ↦ counts_of before now outcome counts (λ e. no_read (whole.0 ∙ e))
-      | inl (inr front) ↦ absurd (no_write front.0)
-      | inr (inl want) ↦ absurd (no_want want.0)
-      | inr (inr front) ↦ absurd (no_write front.0)
-    ]
+-- what solving a file may say may be said where nothing else was done
+pub solves_file : (world : World) (w : SolveWords) (frames : List (List ℕ)) (outcome : Outcome) → IsQuiet world frames → SolvesFile world.files w outcome
+    → Means (Some (Solve w)) world frames outcome
+solves_file world w frames Usage quiet (f, is_file, says) = absurd says
+solves_file world w frames (NotRead error) quiet says = (says, quiet)
+solves_file world w frames (TooManyClaims k count) quiet (f, is_file, says) = (f, is_file, (says, quiet))
+solves_file world w frames (TooManyPoints count) quiet (f, is_file, says) = (f, is_file, (says, quiet))
+solves_file world w frames (TooManyPairs k) quiet (f, is_file, says) = (f, is_file, (says, quiet))
+solves_file world w frames (TooManyNodes k) quiet (f, is_file, says) = (f, is_file, (says, quiet))
+solves_file world w frames EntropyFault quiet (f, is_file, says) = absurd says
+solves_file world w frames NoMemory quiet says = quiet
+solves_file world w frames (Solved t vars clauses) quiet (f, is_file, says) = (f, is_file, (says, quiet))
+solves_file world w frames (CertifiedOutcome t vars clauses draws bad) quiet (f, is_file, says) = absurd says
+solves_file world w frames (NotCertified failure) quiet (f, is_file, says) = absurd says
+
+-- ---- certifying
+
+-- the world of which no file is told
+abbrev unfiled : World → World
+unfiled world = record { files = None; seeds = world.seeds; seeds_after = world.seeds_after; alters = world.alters; seen = world.seen; seen_after = world.seen_after }
+
+same_seed : (given : Option (List ℕ)) (world : World) (seed : List ℕ) → IsSeed given (unfiled world) seed → IsSeed given world seed
+same_seed (Some g) world seed is = is
+same_seed None world seed is = is
+
+with_files : (f : PrenexFormula) (w : CertifyWords) (world : World) (frames : List (List ℕ)) (e : Ending) → HasConversed f w (unfiled world) frames e → HasConversed f w world frames e
+with_files f w world frames e (seed, is_seed, conversed) = (seed, same_seed w.seed world seed is_seed, conversed)
+
+still_conversing : (f : PrenexFormula) (w : CertifyWords) (world : World) (frames : List (List ℕ)) → IsConversing f w (unfiled world) frames → IsConversing f w world frames
+still_conversing f w world frames (can, (seed, is_seed, begun)) = (can, (seed, same_seed w.seed world seed is_seed, begun))
+
+-- what certifying a formula may say may be said of its file
+certifies_file : (world : World) (w : CertifyWords) (f : PrenexFormula) (frames : List (List ℕ)) (outcome : Outcome) → IsFileOf f world.files w.file
+    → CertifiesFormula f w (unfiled world) frames outcome → Means (Some (Certify w)) world frames outcome
+certifies_file world w f frames Usage is_file says = absurd says
+certifies_file world w f frames (NotRead error) is_file says = absurd says
+certifies_file world w f frames (TooManyClaims k count) is_file says = (f, is_file, says)
+certifies_file world w f frames (TooManyPoints count) is_file says = (f, is_file, says)
+certifies_file world w f frames (TooManyPairs k) is_file says = (f, is_file, says)
+certifies_file world w f frames (TooManyNodes k) is_file says = (f, is_file, says)
+certifies_file world w f frames EntropyFault is_file says = (f, is_file, says)
+certifies_file world w f frames NoMemory is_file says = says
+certifies_file world w f frames (Solved t vars clauses) is_file says = absurd says
+certifies_file world w f frames (CertifiedOutcome t vars clauses draws bad) is_file (can, conversed, truly, same_vars, same_clauses, same_draws, same_bad) =
+    (f, is_file, (can, with_files f w world frames _ conversed, truly, same_vars, same_clauses, same_draws, same_bad))
+certifies_file world w f frames (NotCertified failure) is_file (can, conversed, rest) = (f, is_file, (can, with_files f w world frames _ conversed, rest))
+
+-- what is decided of a formula is decided of its file
+pub decides_file : (world : World) (w : CertifyWords) (f : PrenexFormula) (old new : Option (List ℕ)) (result : Option Outcome) → IsFileOf f world.files w.file
+    → DecidesOfFormula f w (unfiled world) old new result → Decides (Some (Certify w)) world old new result
+decides_file world w f old new (Some outcome) is_file (frames, shown, says, printed) = (frames, shown, certifies_file world w f frames outcome is_file says, printed)
+decides_file world w f old new None is_file (frames, shown, conversing, n, front) = (frames, shown, (f, is_file, still_conversing f w world frames conversing), n, front)
+
+no_lines : (request : Option Request) → lines_before request [] ≡ []
+no_lines None = refl
+no_lines (Some (Solve w)) = refl
+no_lines (Some (Certify w)) = no_talk w.talk
+  where
+    no_talk : (b : Bool) → cond b (talk_text []) [] ≡ []
+    no_talk true = refl
+    no_talk false = refl
+
+-- what may be said where nothing was done is decided
+pub decides_quietly : (request : Option Request) (files : Option (List ℕ → Option (List ℕ))) (seeds : Option (ℕ → Option (List ℕ))) (alters : Bool) (seen : Option (List (List ℕ)))
+    (held : Option (List ℕ)) (outcome : Outcome)
+    → Means request (record { files = files; seeds = seeds; seeds_after = seeds; alters = alters; seen = seen; seen_after = seen }) [] outcome
+    → Decides request (record { files = files; seeds = seeds; seeds_after = seeds; alters = alters; seen = seen; seen_after = seen }) held held (Some outcome)
+decides_quietly request files seeds alters seen held outcome means = ([], shows_none seen, means, nothing_more held ∙ ap (append_known held) (sym (no_lines request)))
+
+-- what is decided for what is asked is decided for the words that ask for it
+pub as_asked : (asked request : Option Request) (world : World) (old new : Option (List ℕ)) (result : Option Outcome) → asked ≡ request → Decides asked world old new result
+    → Decides request world old new result
+as_asked asked request world old new result same decides = subst (λ (r : Option Request). Decides r world old new result) same decides
+
+-- want of memory may always be said
+pub no_memory : (request : Option Request) (world : World) (frames : List (List ℕ)) → IsQuiet world frames → Means request world frames NoMemory
+no_memory None world frames quiet = quiet
+no_memory (Some (Solve w)) world frames quiet = quiet
+no_memory (Some (Certify w)) world frames quiet = quiet
+
+-- ---- telling
+
+-- what was decided is told, where a front of its text was printed
+pub says_front : (request : Option Request) (world : World) (old mid new : Option (List ℕ)) (outcome : Outcome) → Decides request world old mid (Some outcome)
+    → (n : ℕ) × (new ≡ append_known mid (take n (text_of outcome))) → Says request world 4 old new
+says_front request world old mid new outcome (frames, shown, means, before) printed =
+    (frames, shown, inl (outcome, means, inr (refl, front_after old mid new (lines_before request frames) (text_of outcome) before printed)))

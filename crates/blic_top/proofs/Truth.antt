@@ -12,7 +12,7 @@ use Rattle.blic_model.specs.Order.{IsOrdered}
 use Rattle.blic_model.specs.Laws.{RootValueIsTruth, ValueIsBoolean}
 use Rattle.blic_solve.specs.Plan.{Solved, IsPlan, IsWithin}
 use Rattle.blic_top.specs.Words.{SolveLimits}
-use Rattle.blic_top.specs.Means.{IsSolvable}
+use Rattle.blic_top.specs.OfFile.{IsSolvable}
 
 -- a bit tells its truth value
 same_bit : (a b : Bool) → bit a ≡ bit b → a ≡ b

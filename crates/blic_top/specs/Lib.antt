@@ -1,6 +1,13 @@
 pub mod Asked
 pub mod Assigned
+pub mod Certifying
+pub mod Deciding
 pub mod Ends
 pub mod Means
+pub mod OfFile
 pub mod Outcome
+pub mod Printing
+pub mod Talking
+pub mod Wire
 pub mod Words
+pub mod World

@@ -1,51 +1,13 @@
--- When each outcome may come. What is told of the files is a function from names to the bytes of those that there are.
-use Rattle.std.specs.Prelude.{◌≡◌, ℕ, ◌<◌, List, length, Option, Some, None, Err, IfSome, IsSomeAnd}
+-- When each outcome may come. `frames` are those that the watch saw in the run.
+use Rattle.std.specs.Prelude.{◌≡◌, ℕ, List, length, Option, Some, None}
 use Rattle.blic_model.specs.Formula.{PrenexFormula}
 use Rattle.blic_model.specs.Truth.{truth}
-use Rattle.blic_model.specs.Limits.{IsFormula}
-use Rattle.blic_model.specs.Building.{circuit_of}
-use Rattle.blic_model.specs.CircuitLimits.{IsGreatestOver, HasManyPoints, IsWithinLimits}
-use Rattle.blic_qdimacs.specs.Meaning.{meaning, Spells}
-use Rattle.blic_qdimacs.specs.declared.error.ReadError.{ReadError}
-use Rattle.blic_qdimacs.specs.declared.error.ReadError.TheVariants as errors
-use Rattle.blic_solve.specs.Plan.{IsWithin, IsPairLimit, IsNodeLimit}
-use Rattle.blic_top.specs.Words.{SolveLimits, SolveWords}
+use Rattle.blic_top.specs.Words.{SolveLimits, Request, Solve, Certify}
+use Rattle.blic_top.specs.World.{World, IsQuiet}
+use Rattle.blic_top.specs.OfFile.{IsFileOf, MayRefuse, HasSmallCircuit, HasManyClaimsAt, HasPointsOver, IsSolvable, HasManyPairsAt, HasManyNodesAt}
+use Rattle.blic_top.specs.Certifying.{CertifiesFormula, IsConversing}
 use Rattle.blic_top.specs.declared.outcome.Outcome.{Outcome}
-use Rattle.blic_top.specs.declared.outcome.Outcome.TheVariants.{Usage, NotRead, TooManyClaims, TooManyPoints, TooManyPairs, TooManyNodes, NoMemory, Solved}
-
--- the formula is within the limits, and the file of that name spells it
-abbrev pub IsFileOf : PrenexFormula → Option (List ℕ → Option (List ℕ)) → List ℕ → Type 0
-IsFileOf f files name = IsFormula f × IfSome files (λ file. IsSomeAnd (file name) (λ bytes. Spells bytes f))
-
--- a refusal is the first that stands in the file's bytes
-abbrev pub MayRefuse : Option (List ℕ → Option (List ℕ)) → List ℕ → ReadError → Type 0
-MayRefuse files name errors.Fault = Unit {0}
-MayRefuse files name errors.NoMem = Unit {0}
-MayRefuse files name error = IfSome files (λ file. IsSomeAnd (file name) (λ bytes. meaning bytes ≡ Err error))
-
--- the formula's circuit is within its limits
-abbrev pub HasSmallCircuit : PrenexFormula → Type 0
-HasSmallCircuit f = IsWithinLimits (circuit_of f).nodes (length (circuit_of f).order)
-
--- node k is the circuit's greatest one with too many claims, and has that many
-abbrev pub HasManyClaimsAt : PrenexFormula → ℕ → ℕ → Type 0
-HasManyClaimsAt f k count = IsGreatestOver (circuit_of f).nodes k count
-
--- no node has too many claims, and the circuit has too many points, that many
-abbrev pub HasPointsOver : PrenexFormula → ℕ → Type 0
-HasPointsOver f count = HasManyPoints (circuit_of f).nodes (length (circuit_of f).order) count
-
--- every node of the circuit is within the limits of solving
-abbrev pub IsSolvable : PrenexFormula → SolveLimits → Type 0
-IsSolvable f limits = (k : ℕ) → k < length (circuit_of f).nodes → IsWithin (circuit_of f).nodes (length (circuit_of f).order) limits.nodes limits.pairs k
-
--- node k is the first that passes a limit of solving, and it passes that of pairs
-abbrev pub HasManyPairsAt : PrenexFormula → SolveLimits → ℕ → Type 0
-HasManyPairsAt f limits k = IsPairLimit (circuit_of f).nodes (length (circuit_of f).order) limits.nodes limits.pairs k
-
--- node k is the first that passes a limit of solving, and it passes that of decisions alone
-abbrev pub HasManyNodesAt : PrenexFormula → SolveLimits → ℕ → Type 0
-HasManyNodesAt f limits k = IsNodeLimit (circuit_of f).nodes (length (circuit_of f).order) limits.nodes limits.pairs k
+use Rattle.blic_top.specs.declared.outcome.Outcome.TheVariants.{Usage, NotRead, TooManyClaims, TooManyPoints, TooManyPairs, TooManyNodes, EntropyFault, NoMemory, Solved, Certified as CertifiedOutcome, NotCertified}
 
 -- what solving the formula within the limits may say
 abbrev pub SaysOfFormula : PrenexFormula → SolveLimits → Outcome → Type 0
@@ -57,26 +19,27 @@ SaysOfFormula f limits (TooManyNodes node) = HasSmallCircuit f × HasManyNodesAt
 SaysOfFormula f limits NoMemory = Unit {0}
 SaysOfFormula f limits Usage = ⊥
 SaysOfFormula f limits (NotRead error) = ⊥
+SaysOfFormula f limits EntropyFault = ⊥
+SaysOfFormula f limits (CertifiedOutcome t vars clauses draws bad) = ⊥
+SaysOfFormula f limits (NotCertified failure) = ⊥
 
--- what `solve` may say of a file within the limits
-abbrev pub SaysOfFile : Option (List ℕ → Option (List ℕ)) → SolveWords → Outcome → Type 0
-SaysOfFile files words (NotRead error) = MayRefuse files words.file error
-SaysOfFile files words NoMemory = Unit {0}
-SaysOfFile files words Usage = ⊥
-SaysOfFile files words (Solved t vars clauses) = (f : PrenexFormula) × IsFileOf f files words.file × SaysOfFormula f words.limits (Solved t vars clauses)
-SaysOfFile files words (TooManyClaims node count) = (f : PrenexFormula) × IsFileOf f files words.file × SaysOfFormula f words.limits (TooManyClaims node count)
-SaysOfFile files words (TooManyPoints count) = (f : PrenexFormula) × IsFileOf f files words.file × SaysOfFormula f words.limits (TooManyPoints count)
-SaysOfFile files words (TooManyPairs node) = (f : PrenexFormula) × IsFileOf f files words.file × SaysOfFormula f words.limits (TooManyPairs node)
-SaysOfFile files words (TooManyNodes node) = (f : PrenexFormula) × IsFileOf f files words.file × SaysOfFormula f words.limits (TooManyNodes node)
+-- what may be said of a file, by what may be said of the formula that it spells
+abbrev pub SaysOfFile : World → List ℕ → (PrenexFormula → Outcome → Type 0) → List (List ℕ) → Outcome → Type 0
+SaysOfFile world name says frames (NotRead error) = MayRefuse world.files name error × IsQuiet world frames
+SaysOfFile world name says frames NoMemory = IsQuiet world frames
+SaysOfFile world name says frames Usage = ⊥
+SaysOfFile world name says frames outcome = (f : PrenexFormula) × IsFileOf f world.files name × says f outcome
 
--- what may be said of the words: what they ask for, or nothing where they don't fit
-abbrev pub Means : Option SolveWords → Option (List ℕ → Option (List ℕ)) → Outcome → Type 0
-Means (Some words) files outcome = SaysOfFile files words outcome
-Means None files Usage = Unit {0}
-Means None files NoMemory = Unit {0}
-Means None files (NotRead error) = ⊥
-Means None files (TooManyClaims node count) = ⊥
-Means None files (TooManyPoints count) = ⊥
-Means None files (TooManyPairs node) = ⊥
-Means None files (TooManyNodes node) = ⊥
-Means None files (Solved t vars clauses) = ⊥
+-- what may be said where the words ask for this, or for nothing since they don't fit
+abbrev pub Means : Option Request → World → List (List ℕ) → Outcome → Type 0
+Means (Some (Solve w)) world frames outcome = SaysOfFile world w.file (λ f o. SaysOfFormula f w.limits o × IsQuiet world frames) frames outcome
+Means (Some (Certify w)) world frames outcome = SaysOfFile world w.file (λ f o. CertifiesFormula f w world frames o) frames outcome
+Means None world frames Usage = IsQuiet world frames
+Means None world frames NoMemory = IsQuiet world frames
+Means None world frames outcome = ⊥
+
+-- a conversation is under way, and these are its frames
+abbrev pub IsUnderWay : Option Request → World → List (List ℕ) → Type 0
+IsUnderWay (Some (Certify w)) world frames = (f : PrenexFormula) × IsFileOf f world.files w.file × IsConversing f w world frames
+IsUnderWay (Some (Solve w)) world frames = ⊥
+IsUnderWay None world frames = ⊥

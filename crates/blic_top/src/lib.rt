@@ -2,12 +2,16 @@
 #![tactic(auto)]
 
 mod cases;
+mod certify;
+mod conversation;
+mod file;
 mod outcome;
+mod printing;
 mod program;
 mod words;
 
 pub use cases::by_cases;
-pub use outcome::Outcome;
+pub use outcome::{Failure, Outcome};
 pub use program::run;
 
 #[cfg(test)]

@@ -1,10 +1,25 @@
 // What the program has to say, with its status and its text.
-ghost use Rattle.std.specs.Prelude.{◌≡◌, ◌++◌, IfOk, OnOk, string_bytes};
-ghost use Rattle.blic_top.specs.Outcome.{status_of, text_of};
+ghost use Rattle.std.specs.Prelude.{◌≡◌, ◌++◌, cond, codes, decimal};
+ghost use Rattle.blic_top.specs.Outcome.{check_text, failure_status as status_of_failure, failure_text, line_end, refusal_text, refused_at, status_of, text_of};
+ghost use Rattle.blic_top.specs.Printing.{Prints, PrintCounts};
 
+use crate::printing::{Piece, WriteFault, print_pieces};
+use blic_basic::Sink;
 use blic_qdimacs::ReadError;
-use std::alloc::{AllocError, Global};
-use std::fmt::Write;
+use blic_verifier::{Part, Place};
+
+/// How a conversation failed.
+#[derive(Clone, Copy, Debug, PartialEq, Eq)]
+pub enum Failure {
+    /// The first check that fails.
+    Rejected(Place),
+    /// The reply at this turn is of another kind than the one that stands there.
+    WrongKind(u64),
+    /// The reply at this turn, how many polynomials stand there, and how many it has.
+    WrongCount(u64, u32, u32),
+    /// A reply is no frame.
+    NotFrame,
+}
 
 /// How a command ended.
 #[derive(Clone, Copy, Debug, PartialEq, Eq)]
@@ -21,10 +36,17 @@ pub enum Outcome {
     TooManyPairs(u32),
     /// The first node at which a limit of solving is passed passes that of decisions alone.
     TooManyNodes(u32),
+    /// No seed could be had.
+    EntropyFault,
     /// Memory ran out.
     NoMemory,
     /// The formula's truth, its number of variables and its number of clauses.
     Solved(bool, u32, u32),
+    /// The certified answer, the numbers of variables and of clauses, and the conversation's numbers of
+    /// draws and of bad elements at most.
+    Certified(bool, u32, u32, u64, u64),
+    /// The conversation was not accepted.
+    NotCertified(Failure),
 }
 
 impl Outcome {
@@ -41,106 +63,231 @@ impl Outcome {
             Outcome::TooManyPoints(_) => 8,
             Outcome::TooManyPairs(_) => 8,
             Outcome::TooManyNodes(_) => 8,
+            Outcome::EntropyFault => 11,
             Outcome::NoMemory => 9,
             Outcome::Solved(true, _, _) => 10,
             Outcome::Solved(false, _, _) => 20,
+            Outcome::Certified(true, _, _, _, _) => 10,
+            Outcome::Certified(false, _, _, _, _) => 20,
+            Outcome::NotCertified(failure) => failure_status(failure),
         }
     }
 
-    /// The whole text.
-    pub(crate) fn text(self, alloc: Global) -> Result<String, AllocError>
-        ensures { IfOk result (λ text. string_bytes text ≡ text_of self) }
+    /// Prints the whole text, without memory.
+    pub(crate) fn print<O: Sink>(self, out: &mut O) -> Result<(), WriteFault>
+        ensures bytes { Prints (O.held out.old) (O.held out.new) result (text_of self) }
+        ensures cause { PrintCounts (O.faults out.old) (O.faults out.new) result }
     {
         match self {
-            Outcome::Usage => String::from_str(
-                alloc,
-                "usage: blic solve FILE, certify FILE, verify FILE ADDR or exercise N\n",
+            Outcome::Usage => print_pieces(
+                out,
+                &[Piece::Bytes(
+                    b"usage: blic solve FILE, certify FILE, verify FILE ADDR or exercise N\n",
+                )],
             ),
-            Outcome::NotRead(error) => refusal_line(alloc, error),
-            Outcome::TooManyClaims(node, count) => claims_line(alloc, node, count),
-            Outcome::TooManyPoints(count) => format!(in alloc; "c limit points count {count}\n"),
-            Outcome::TooManyPairs(node) => format!(in alloc; "c limit pairs at {node}\n"),
-            Outcome::TooManyNodes(node) => format!(in alloc; "c limit nodes at {node}\n"),
-            Outcome::NoMemory => String::from_str(alloc, "c want of memory\n"),
-            Outcome::Solved(truth, vars, clauses) => answer_line(alloc, truth, vars, clauses),
+            Outcome::NotRead(error) => print_refusal(out, error),
+            Outcome::TooManyClaims(node, count) => print_pieces(
+                out,
+                &[
+                    Piece::Bytes(b"c limit claims at "),
+                    Piece::Number(node as u64),
+                    Piece::Bytes(b" count "),
+                    Piece::Number(count),
+                    Piece::Bytes(b"\n"),
+                ],
+            ),
+            Outcome::TooManyPoints(count) => print_pieces(
+                out,
+                &[
+                    Piece::Bytes(b"c limit points count "),
+                    Piece::Number(count),
+                    Piece::Bytes(b"\n"),
+                ],
+            ),
+            Outcome::TooManyPairs(node) => print_pieces(
+                out,
+                &[
+                    Piece::Bytes(b"c limit pairs at "),
+                    Piece::Number(node as u64),
+                    Piece::Bytes(b"\n"),
+                ],
+            ),
+            Outcome::TooManyNodes(node) => print_pieces(
+                out,
+                &[
+                    Piece::Bytes(b"c limit nodes at "),
+                    Piece::Number(node as u64),
+                    Piece::Bytes(b"\n"),
+                ],
+            ),
+            Outcome::EntropyFault => print_pieces(out, &[Piece::Bytes(b"c entropy fault\n")]),
+            Outcome::NoMemory => print_pieces(out, &[Piece::Bytes(b"c want of memory\n")]),
+            Outcome::Solved(truth, vars, clauses) => print_pieces(
+                out,
+                &[
+                    Piece::Bytes(answer(truth)),
+                    Piece::Number(vars as u64),
+                    Piece::Bytes(b" "),
+                    Piece::Number(clauses as u64),
+                    Piece::Bytes(b"\n"),
+                ],
+            ),
+            Outcome::Certified(truth, vars, clauses, draws, bad) => print_pieces(
+                out,
+                &[
+                    Piece::Bytes(answer(truth)),
+                    Piece::Number(vars as u64),
+                    Piece::Bytes(b" "),
+                    Piece::Number(clauses as u64),
+                    Piece::Bytes(b"\nruns 1\ndraws "),
+                    Piece::Number(draws),
+                    Piece::Bytes(b"\nbad "),
+                    Piece::Number(bad),
+                    Piece::Bytes(b"\n"),
+                ],
+            ),
+            Outcome::NotCertified(failure) => print_failure(out, failure),
         }
     }
 }
 
-// The answer line of QDIMACS.
-fn answer_line(alloc: Global, truth: bool, vars: u32, clauses: u32) -> Result<String, AllocError>
-    ensures { IfOk result (λ line. string_bytes line ≡ text_of (Outcome.Solved truth vars clauses)) }
+// 13 for what is no frame, 6 for a reply that the verifier refuses.
+fn failure_status(failure: Failure) -> u8
+    ensures { result ≡ status_of_failure failure }
 {
-    let mut line = String::new(alloc);
-    push_answer(&mut line, truth, vars, clauses)?;
-    Ok(line)
-}
-
-fn push_answer(line: &mut String, truth: bool, vars: u32, clauses: u32) -> Result<(), AllocError>
-    ensures { OnOk result (string_bytes line.new ≡ string_bytes line.old ++ text_of (Outcome.Solved truth vars clauses)) }
-{
-    if truth {
-        write!(line, "s cnf 1 {vars} {clauses}\n")
-    } else {
-        write!(line, "s cnf 0 {vars} {clauses}\n")
+    match failure {
+        Failure::Rejected(_) => 6,
+        Failure::WrongKind(_) => 6,
+        Failure::WrongCount(_, _, _) => 6,
+        Failure::NotFrame => 13,
     }
 }
 
-// The node with too many claims, and their number.
-fn claims_line(alloc: Global, node: u32, count: u64) -> Result<String, AllocError>
-    ensures { IfOk result (λ line. string_bytes line ≡ text_of (Outcome.TooManyClaims node count)) }
+// The front of the answer line of QDIMACS.
+fn answer(truth: bool) -> &'static [u8]
+    ensures { result.now ≡ cond truth (codes "s cnf 1 ") (codes "s cnf 0 ") }
 {
-    let mut line = String::new(alloc);
-    push_claims(&mut line, node, count)?;
-    Ok(line)
-}
-
-fn push_claims(line: &mut String, node: u32, count: u64) -> Result<(), AllocError>
-    ensures { OnOk result (string_bytes line.new ≡ string_bytes line.old ++ text_of (Outcome.TooManyClaims node count)) }
-{
-    write!(line, "c limit claims at {node}")?;
-    write!(line, " count {count}\n")?;
-    Ok(())
+    if truth { b"s cnf 1 " } else { b"s cnf 0 " }
 }
 
 // What is said where no formula was read.
-fn refusal_line(alloc: Global, error: ReadError) -> Result<String, AllocError>
-    ensures { IfOk result (λ line. string_bytes line ≡ text_of (Outcome.NotRead error)) }
+fn print_refusal<O: Sink>(out: &mut O, error: ReadError) -> Result<(), WriteFault>
+    ensures bytes { Prints (O.held out.old) (O.held out.new) result (refusal_text error) }
+    ensures cause { PrintCounts (O.faults out.old) (O.faults out.new) result }
 {
     match error {
-        ReadError::NoProblemLine { line } => format!(in alloc;
-            "c refused NoProblemLine line {line}\n"
+        ReadError::NoProblemLine { line } => print_refused(out, b"NoProblemLine", line),
+        ReadError::BadProblemLine { line } => print_refused(out, b"BadProblemLine", line),
+        ReadError::BadToken { line } => print_refused(out, b"BadToken", line),
+        ReadError::NumberTooLarge { line } => print_refused(out, b"NumberTooLarge", line),
+        ReadError::VariableTooLarge { line } => print_refused(out, b"VariableTooLarge", line),
+        ReadError::BoundTwice { line } => print_refused(out, b"BoundTwice", line),
+        ReadError::SetAfterClause { line } => print_refused(out, b"SetAfterClause", line),
+        ReadError::TooManyClauses { line } => print_refused(out, b"TooManyClauses", line),
+        ReadError::TooFewClauses { line } => print_refused(out, b"TooFewClauses", line),
+        ReadError::Unended { line } => print_refused(out, b"Unended", line),
+        ReadError::TooManyVariables { line } => print_refused(out, b"TooManyVariables", line),
+        ReadError::TooManyLiterals { line } => print_refused(out, b"TooManyLiterals", line),
+        ReadError::ClauseLimit { line } => print_refused(out, b"ClauseLimit", line),
+        ReadError::TooLong { line } => print_refused(out, b"TooLong", line),
+        ReadError::Fault => print_pieces(out, &[Piece::Bytes(b"c read fault\n")]),
+        ReadError::NoMem => print_pieces(out, &[Piece::Bytes(b"c want of memory\n")]),
+    }
+}
+
+// The name of a refusal and its line.
+fn print_refused<O: Sink>(out: &mut O, name: &[u8], line: u32) -> Result<(), WriteFault>
+    ensures bytes { Prints (O.held out.old) (O.held out.new) result (refused_at name.now line) }
+    ensures cause { PrintCounts (O.faults out.old) (O.faults out.new) result }
+{
+    print_pieces(
+        out,
+        &[
+            Piece::Bytes(b"c refused "),
+            Piece::Bytes(name),
+            Piece::Bytes(b" line "),
+            Piece::Number(line as u64),
+            Piece::Bytes(b"\n"),
+        ],
+    )
+}
+
+// How a conversation failed.
+fn print_failure<O: Sink>(out: &mut O, failure: Failure) -> Result<(), WriteFault>
+    ensures bytes { Prints (O.held out.old) (O.held out.new) result (failure_text failure) }
+    ensures cause { PrintCounts (O.faults out.old) (O.faults out.new) result }
+{
+    match failure {
+        Failure::Rejected(place) => print_rejected(out, place.node, place.part, place.claim),
+        Failure::WrongKind(turn) => print_pieces(
+            out,
+            &[
+                Piece::Bytes(b"c rejected kind turn "),
+                Piece::Number(turn),
+                Piece::Bytes(b"\n"),
+            ],
         ),
-        ReadError::BadProblemLine { line } => format!(in alloc;
-            "c refused BadProblemLine line {line}\n"
+        Failure::WrongCount(turn, want, got) => print_pieces(
+            out,
+            &[
+                Piece::Bytes(b"c rejected count turn "),
+                Piece::Number(turn),
+                Piece::Bytes(b" want "),
+                Piece::Number(want as u64),
+                Piece::Bytes(b" got "),
+                Piece::Number(got as u64),
+                Piece::Bytes(b"\n"),
+            ],
         ),
-        ReadError::BadToken { line } => format!(in alloc; "c refused BadToken line {line}\n"),
-        ReadError::NumberTooLarge { line } => format!(in alloc;
-            "c refused NumberTooLarge line {line}\n"
+        Failure::NotFrame => print_pieces(out, &[Piece::Bytes(b"c not a frame\n")]),
+    }
+}
+
+// The first check that fails.
+fn print_rejected<O: Sink>(out: &mut O, node: u32, part: Part, claim: u32) -> Result<(), WriteFault>
+    ensures bytes { Prints (O.held out.old) (O.held out.new) result (codes "c rejected node " ++ decimal node ++ check_text part claim ++ line_end) }
+    ensures cause { PrintCounts (O.faults out.old) (O.faults out.new) result }
+{
+    match part {
+        Part::Poly(level) => print_pieces(
+            out,
+            &[
+                Piece::Bytes(b"c rejected node "),
+                Piece::Number(node as u64),
+                Piece::Bytes(b" poly "),
+                Piece::Number(level as u64),
+                Piece::Bytes(b" claim "),
+                Piece::Number(claim as u64),
+                Piece::Bytes(b"\n"),
+            ],
         ),
-        ReadError::VariableTooLarge { line } => format!(in alloc;
-            "c refused VariableTooLarge line {line}\n"
+        Part::Ends => print_pieces(
+            out,
+            &[
+                Piece::Bytes(b"c rejected node "),
+                Piece::Number(node as u64),
+                Piece::Bytes(b" ends claim "),
+                Piece::Number(claim as u64),
+                Piece::Bytes(b"\n"),
+            ],
         ),
-        ReadError::BoundTwice { line } => format!(in alloc; "c refused BoundTwice line {line}\n"),
-        ReadError::SetAfterClause { line } => format!(in alloc;
-            "c refused SetAfterClause line {line}\n"
+        Part::Combine => print_pieces(
+            out,
+            &[
+                Piece::Bytes(b"c rejected node "),
+                Piece::Number(node as u64),
+                Piece::Bytes(b" combine\n"),
+            ],
         ),
-        ReadError::TooManyClauses { line } => format!(in alloc;
-            "c refused TooManyClauses line {line}\n"
+        Part::Leaf => print_pieces(
+            out,
+            &[
+                Piece::Bytes(b"c rejected node "),
+                Piece::Number(node as u64),
+                Piece::Bytes(b" leaf claim "),
+                Piece::Number(claim as u64),
+                Piece::Bytes(b"\n"),
+            ],
         ),
-        ReadError::TooFewClauses { line } => format!(in alloc;
-            "c refused TooFewClauses line {line}\n"
-        ),
-        ReadError::Unended { line } => format!(in alloc; "c refused Unended line {line}\n"),
-        ReadError::TooManyVariables { line } => format!(in alloc;
-            "c refused TooManyVariables line {line}\n"
-        ),
-        ReadError::TooManyLiterals { line } => format!(in alloc;
-            "c refused TooManyLiterals line {line}\n"
-        ),
-        ReadError::ClauseLimit { line } => format!(in alloc; "c refused ClauseLimit line {line}\n"),
-        ReadError::TooLong { line } => format!(in alloc; "c refused TooLong line {line}\n"),
-        ReadError::Fault => String::from_str(alloc, "c read fault\n"),
-        ReadError::NoMem => String::from_str(alloc, "c want of memory\n"),
     }
 }

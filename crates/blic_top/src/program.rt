@@ -1,20 +1,22 @@
 // The program's work.
-ghost use Rattle.std.specs.Prelude.{◌≡◌, ◌≢◌, ℕ, List, Some, None, Option, ◌⊎◌, take, string_bytes};
-ghost use Rattle.std.specs.Io.KnownBytes.{append_known};
+ghost use Rattle.std.specs.Prelude.{◌≡◌, ◌≢◌, ℕ, List, Some, None, Option, false};
 ghost use Rattle.blic_basic.specs.Outside.{Rose};
 ghost use Rattle.blic_model.specs.Building.{circuit_of};
-ghost use Rattle.blic_top.specs.Asked.{asked_by};
-ghost use Rattle.blic_top.specs.Words.{solve_words};
-ghost use Rattle.blic_top.specs.Outcome.{status_of, text_of};
-ghost use Rattle.blic_top.specs.Means.{HasSmallCircuit, Means, SaysOfFile, SaysOfFormula};
-ghost use Rattle.blic_top.specs.Ends.{Says, IsTold, Solves, LimitsSolving, LimitsCircuit, Refuses, IsOrNoMemory, OutcomeCounts};
+ghost use Rattle.blic_top.specs.Asked.{asked_by, certify_asked_by};
+ghost use Rattle.blic_top.specs.Words.{request_of, Certify};
+ghost use Rattle.blic_top.specs.OfFile.{HasSmallCircuit};
+ghost use Rattle.blic_top.specs.Means.{SaysOfFormula};
+ghost use Rattle.blic_top.specs.Deciding.{DecideCounts, Decides, SolvesFile};
+ghost use Rattle.blic_top.specs.Ends.{OutcomeCounts, Certifies, IsOrNoMemory, LimitsCircuit, LimitsSolving, Refuses, Says, Solves};
 
+use crate::certify::certify_formula;
+use crate::file::read_file;
 use crate::outcome::Outcome;
-use crate::words::{SolveArguments, solve_arguments};
-use blic_basic::{Files, Opened, Sink, Wrote, write_all_counted};
+use crate::printing::WriteFault;
+use crate::words::{Arguments, CertifyArguments, SolveArguments, parse_arguments};
+use blic_basic::{Entropy, Files, Sink, Watch};
 use blic_circuit::build;
 use blic_model::{Circuit, CircuitError, Formula, boolean_value_law, circuit_law, shape_law};
-use blic_qdimacs::{ReadError, read};
 use blic_solve::{Plan, SolveError};
 use std::alloc::Global;
 
@@ -26,75 +28,157 @@ use std::alloc::Global;
 /// how many decisions and pairs solving may take: N from 1 to 2^24, by default 2^22, and P from 1
 /// to 2^25, by default 2^24.
 ///
+/// `certify FILE` solves the formula within the same limits, and has a prover, who answers by what was
+/// solved, and a verifier hold a conversation about the formula's circuit. Each frame is shown to `watch`, and
+/// the verifier judges each reply as `watch` left it. Where it accepts, the answer line is printed with the statuses of `solve`,
+/// and then `runs 1`, `draws D` and `bad B`. The draws are those of the seed that `--seed` gives as 64 hexadecimal digits, or of
+/// the next one of `entropy`. With `--talk` a line for each frame comes first.
+///
 /// | status | where |
 /// |---|---|
 /// | 1 | the words don't fit |
 /// | 2 | the file spells no formula within the limits |
 /// | 3 | a call on the files or on the opened file failed |
 /// | 4 | a call on `out` failed; it holds a front of what was to be printed |
+/// | 6 | the verifier refused a reply that `watch` had altered |
 /// | 8 | the formula's circuit passes a limit of circuits, or else one of solving |
 /// | 9 | memory ran out |
-pub fn run<F: Files, O: Sink>(alloc: Global, words: &Vec<String>, files: &mut F, out: &mut O) -> u8
+/// | 11 | `entropy` failed |
+/// | 13 | `watch` left a reply that is no frame |
+pub fn run<F: Files, E: Entropy, W: Watch, O: Sink>(
+    alloc: Global,
+    words: &Vec<String>,
+    files: &mut F,
+    entropy: &mut E,
+    watch: &mut W,
+    out: &mut O,
+) -> u8
     // What is told has come, and what is printed is its text.
-    ensures says { Says (solve_words words.now.items) (F.files files.old) result (O.held out.old) (O.held out.new) }
+    ensures says { Says (request_of words.now.items) (record {
+      files = F.files files.old;
+      seeds = E.seeds entropy.old;
+      seeds_after = E.seeds entropy.new;
+      alters = W.alters watch.old;
+      seen = W.frames watch.old;
+      seen_after = W.frames watch.new;
+    }) result (O.held out.old) (O.held out.new) }
 
-    // A fault is told only where one was, and of the files' faults none is passed over.
+    // A fault is told only where one was, and of the files' and of entropy's faults none is passed over.
     ensures read_fault { result ≡ 3 → Rose (F.faults files.old) (F.faults files.new) }
     ensures write_fault { result ≡ 4 → Rose (O.faults out.old) (O.faults out.new) }
-    ensures passes_no_fault { result ≢ 3 → result ≢ 4 → result ≢ 9 → F.faults files.new ≡ F.faults files.old }
+    ensures entropy_fault { result ≡ 11 → Rose (E.faults entropy.old) (E.faults entropy.new) }
+    ensures passes_no_fault { result ≢ 3 → result ≢ 4 → F.faults files.new ≡ F.faults files.old }
+    ensures passes_no_entropy_fault { result ≢ 11 → result ≢ 4 → E.faults entropy.new ≡ E.faults entropy.old }
 
     // Where nothing failed, the status follows from the words and the file.
-    ensures usage { ¬ (Rose (O.faults out.old) (O.faults out.new)) → solve_words words.now.items ≡ None → IsOrNoMemory result 1 }
+    ensures usage { ¬ (Rose (O.faults out.old) (O.faults out.new)) → request_of words.now.items ≡ None → IsOrNoMemory result 1 }
     ensures solves { ¬ (Rose (F.faults files.old) (F.faults files.new)) → ¬ (Rose (O.faults out.old) (O.faults out.new))
-        → Solves (solve_words words.now.items) (F.files files.old) result }
+        → Solves (request_of words.now.items) (F.files files.old) result }
+    ensures certifies { ¬ (Rose (F.faults files.old) (F.faults files.new)) → ¬ (Rose (O.faults out.old) (O.faults out.new))
+        → ¬ (Rose (E.faults entropy.old) (E.faults entropy.new)) → W.alters watch.old ≡ false
+        → Certifies (request_of words.now.items) (F.files files.old) result }
     ensures limits_solving { ¬ (Rose (F.faults files.old) (F.faults files.new)) → ¬ (Rose (O.faults out.old) (O.faults out.new))
-        → LimitsSolving (solve_words words.now.items) (F.files files.old) result }
+        → LimitsSolving (request_of words.now.items) (F.files files.old) result }
     ensures limits_circuit { ¬ (Rose (F.faults files.old) (F.faults files.new)) → ¬ (Rose (O.faults out.old) (O.faults out.new))
-        → LimitsCircuit (solve_words words.now.items) (F.files files.old) result }
+        → LimitsCircuit (request_of words.now.items) (F.files files.old) result }
     ensures refuses { ¬ (Rose (F.faults files.old) (F.faults files.new)) → ¬ (Rose (O.faults out.old) (O.faults out.new))
-        → Refuses (solve_words words.now.items) (F.files files.old) result }
+        → Refuses (request_of words.now.items) (F.files files.old) result }
 {
-    perform(alloc, words, files, out)
+    perform(alloc, words, files, entropy, watch, out)
 }
 
 // What `run` does, with what it says and the causes of its faults.
-fn perform<F: Files, O: Sink>(alloc: Global, words: &[String], files: &mut F, out: &mut O) -> u8
-    ensures says { Says (solve_words words.now) (F.files files.old) result (O.held out.old) (O.held out.new) }
+fn perform<F: Files, E: Entropy, W: Watch, O: Sink>(
+    alloc: Global,
+    words: &[String],
+    files: &mut F,
+    entropy: &mut E,
+    watch: &mut W,
+    out: &mut O,
+) -> u8
+    ensures says { Says (request_of words.now) (record {
+      files = F.files files.old;
+      seeds = E.seeds entropy.old;
+      seeds_after = E.seeds entropy.new;
+      alters = W.alters watch.old;
+      seen = W.frames watch.old;
+      seen_after = W.frames watch.new;
+    }) result (O.held out.old) (O.held out.new) }
     ensures read_fault { result ≡ 3 → Rose (F.faults files.old) (F.faults files.new) }
     ensures write_fault { result ≡ 4 → Rose (O.faults out.old) (O.faults out.new) }
-    ensures passes_no_fault { result ≢ 3 → result ≢ 4 → result ≢ 9 → F.faults files.new ≡ F.faults files.old }
+    ensures entropy_fault { result ≡ 11 → Rose (E.faults entropy.old) (E.faults entropy.new) }
+    ensures passes_no_fault { result ≢ 3 → result ≢ 4 → F.faults files.new ≡ F.faults files.old }
+    ensures passes_no_entropy_fault { result ≢ 11 → result ≢ 4 → E.faults entropy.new ≡ E.faults entropy.old }
 {
-    let outcome = decide(alloc, words, files);
-    tell(alloc, outcome, out)
+    match decide(alloc, words, files, entropy, watch, out) {
+        Some(outcome) => match outcome.print(out) {
+            Ok(()) => outcome.status(),
+            Err(WriteFault) => 4,
+        },
+        None => 4,
+    }
 }
 
-// What there is to say.
-fn decide<F: Files>(alloc: Global, words: &[String], files: &mut F) -> Outcome
-    ensures means { Means (solve_words words.now) (F.files files.old) result }
-    ensures cause { OutcomeCounts (F.faults files.old) (F.faults files.new) result }
+// What there is to say, once the lines that come before it are printed. `None` where one could not be printed.
+fn decide<F: Files, E: Entropy, W: Watch, O: Sink>(
+    alloc: Global,
+    words: &[String],
+    files: &mut F,
+    entropy: &mut E,
+    watch: &mut W,
+    out: &mut O,
+) -> Option<Outcome>
+    ensures decides { Decides (request_of words.now) (record {
+      files = F.files files.old;
+      seeds = E.seeds entropy.old;
+      seeds_after = E.seeds entropy.new;
+      alters = W.alters watch.old;
+      seen = W.frames watch.old;
+      seen_after = W.frames watch.new;
+    }) (O.held out.old) (O.held out.new) result }
+    ensures cause { DecideCounts (F.faults files.old) (F.faults files.new) (E.faults entropy.old) (E.faults entropy.new) (O.faults out.old) (O.faults out.new) result }
 {
-    match solve_arguments(alloc, words) {
-        Ok(Some(asked)) => solve(alloc, &asked, files),
-        Ok(None) => Outcome::Usage,
-        Err(_) => Outcome::NoMemory,
+    match parse_arguments(alloc, words) {
+        Ok(Some(Arguments::Solve(asked))) => Some(solve(alloc, &asked, files)),
+        Ok(Some(Arguments::Certify(asked))) => certify(alloc, &asked, files, entropy, watch, out),
+        Ok(None) => Some(Outcome::Usage),
+        Err(_) => Some(Outcome::NoMemory),
+    }
+}
+
+// Certifies the formula of the file that is asked for.
+fn certify<F: Files, E: Entropy, W: Watch, O: Sink>(
+    alloc: Global,
+    asked: &CertifyArguments<'_>,
+    files: &mut F,
+    entropy: &mut E,
+    watch: &mut W,
+    out: &mut O,
+) -> Option<Outcome>
+    ensures decides { Decides (Some (Certify (certify_asked_by asked.now))) (record {
+      files = F.files files.old;
+      seeds = E.seeds entropy.old;
+      seeds_after = E.seeds entropy.new;
+      alters = W.alters watch.old;
+      seen = W.frames watch.old;
+      seen_after = W.frames watch.new;
+    }) (O.held out.old) (O.held out.new) result }
+    ensures cause { DecideCounts (F.faults files.old) (F.faults files.new) (E.faults entropy.old) (E.faults entropy.new) (O.faults out.old) (O.faults out.new) result }
+{
+    match read_file(alloc, asked.file, files) {
+        Ok(formula) => certify_formula(alloc, &formula, asked, entropy, watch, out),
+        Err(error) => Some(Outcome::NotRead(error)),
     }
 }
 
 // Solves the formula of the file that is asked for.
 fn solve<F: Files>(alloc: Global, asked: &SolveArguments<'_>, files: &mut F) -> Outcome
-    ensures says { SaysOfFile (F.files files.old) (asked_by asked.now) result }
-    ensures cause { OutcomeCounts (F.faults files.old) (F.faults files.new) result }
+    ensures says { SolvesFile (F.files files.old) (asked_by asked.now) result }
+    ensures cause { OutcomeCounts (F.faults files.old) (F.faults files.new) 0 0 result }
 {
-    match files.open_file(asked.file) {
-        Opened::Failed => Outcome::NotRead(ReadError::Fault),
-        Opened::Source(mut source) => {
-            let formula = read(alloc, &mut source);
-            files.close_file(source);
-            match formula {
-                Ok(formula) => solve_formula(alloc, &formula, asked.nodes, asked.pairs),
-                Err(error) => Outcome::NotRead(error),
-            }
-        }
+    match read_file(alloc, asked.file, files) {
+        Ok(formula) => solve_formula(alloc, &formula, asked.nodes, asked.pairs),
+        Err(error) => Outcome::NotRead(error),
     }
 }
 
@@ -131,29 +215,5 @@ fn solve_circuit(
         Err(SolveError::PairLimit { node }) => Outcome::TooManyPairs(node),
         Err(SolveError::NodeLimit { node }) => Outcome::TooManyNodes(node),
         Err(SolveError::NoMem) => Outcome::NoMemory,
-    }
-}
-
-// Prints the outcome's text, or that there is no memory for it, and answers the status.
-fn tell<O: Sink>(alloc: Global, outcome: Outcome, out: &mut O) -> u8
-    ensures told { IsTold outcome result (O.held out.old) (O.held out.new) ⊎ IsTold Outcome.NoMemory result (O.held out.old) (O.held out.new) }
-    ensures fault { result ≡ 4 → Rose (O.faults out.old) (O.faults out.new) }
-{
-    match outcome.text(alloc) {
-        Ok(text) => print(text.as_bytes(), outcome.status(), out),
-        Err(_) => print(b"c want of memory\n", 9, out),
-    }
-}
-
-// Appends a text. Where that fails the status is 4.
-fn print<O: Sink>(text: &[u8], status: u8, out: &mut O) -> u8
-    requires { status ≢ 4 }
-    ensures told { ((result ≡ status) × (O.held out.new ≡ append_known (O.held out.old) text.now))
-        ⊎ ((result ≡ 4) × ((n : ℕ) × (O.held out.new ≡ append_known (O.held out.old) (take n text.now)))) }
-    ensures fault { result ≡ 4 → Rose (O.faults out.old) (O.faults out.new) }
-{
-    match write_all_counted(out, text) {
-        Wrote::All => status,
-        Wrote::Failed(_) => 4,
     }
 }

@@ -1,6 +1,9 @@
 // What `run` answers and prints, over files and an output in memory.
 use crate::{by_cases, run};
-use blic_basic::{Files, MemFile, MemFiles, MemSink, SureFiles, SureSource};
+use blic_basic::{
+    Bend, BendWatch, Entropy, Files, MemEntropy, MemFile, MemFiles, MemSink, MemWatch, NoWatch,
+    SureEntropy, SureFiles, SureSource, Watch,
+};
 use blic_qdimacs::read;
 use std::alloc::{AllocError, Global};
 use std::fmt::Write;
@@ -46,7 +49,33 @@ pub(crate) fn lines_of(alloc: Global, text: &str) -> Result<Vec<u8>, AllocError>
     Ok(bytes)
 }
 
-// Runs `solve` on the file with these options, and asserts its status and its line.
+// Runs a command on the file with these options, and asserts its status and what it prints.
+fn assert_runs(
+    rt: &impl Abort,
+    alloc: Global,
+    command: &str,
+    options: &str,
+    file: &[u8],
+    status: u8,
+    lines: &str,
+) -> Result<(), Fail> {
+    let mut words = words_of(alloc, command)?;
+    words.append(&mut words_of(alloc, options)?)?;
+    let mut out = sink(alloc, Vec::new(alloc), 1000)?;
+    let mut entropy = SureEntropy::new([7; 32]);
+    let got = run(
+        alloc,
+        &words,
+        &mut SureFiles::new(file),
+        &mut entropy,
+        &mut NoWatch::new(),
+        &mut out,
+    );
+    assert_eq!(rt; got, status, "{command} {options} {lines}");
+    assert_eq!(rt; out.bytes(), lines_of(alloc, lines)?.as_slice());
+    Ok(())
+}
+
 fn assert_solves(
     rt: &impl Abort,
     alloc: Global,
@@ -55,16 +84,7 @@ fn assert_solves(
     status: u8,
     line: &str,
 ) -> Result<(), Fail> {
-    let mut words = words_of(alloc, "solve f")?;
-    words.append(&mut words_of(alloc, options)?)?;
-    let mut out = sink(alloc, Vec::new(alloc), 100)?;
-    assert_eq!(rt;
-        run(alloc, &words, &mut SureFiles::new(file), &mut out),
-        status,
-        "{options} {line}"
-    );
-    assert_eq!(rt; out.bytes(), lines_of(alloc, line)?.as_slice());
-    Ok(())
+    assert_runs(rt, alloc, "solve f", options, file, status, line)
 }
 
 // The status of the formula's truth by trying all values, where it is one of few variables.
@@ -138,6 +158,32 @@ fn the_limits_of_solving_are_exact(rt: HostRuntime) -> Result<(), Fail> {
 --nodes 2|p cnf 2 2/e 1 2 0/1 2 0/1 2 0/|8|c limit nodes at 2/
 --nodes 1 --pairs 1|p cnf 1 1/0/|20|s cnf 0 1 1/",
     )
+}
+
+#[test]
+fn the_limits_of_solving_hold_for_certifying(rt: HostRuntime) -> Result<(), Fail> {
+    let alloc = rt.alloc();
+    let text = lines_of(alloc, "p cnf 2 2/a 1 0/e 2 0/1 2 0/-1 -2 0/")?;
+    for (options, status, lines) in [
+        (
+            "--nodes 7 --pairs 4",
+            10,
+            "s cnf 1 2 2/runs 1/draws 7/bad 20/",
+        ),
+        ("--nodes 6", 8, "c limit nodes at 6/"),
+        ("--pairs 3", 8, "c limit pairs at 9/"),
+    ] {
+        assert_runs(
+            &rt,
+            alloc,
+            "certify f",
+            options,
+            text.as_slice(),
+            status,
+            lines,
+        )?;
+    }
+    Ok(())
 }
 
 #[test]
@@ -234,7 +280,16 @@ fn words_that_do_not_fit_get_the_usage_line(rt: HostRuntime) -> Result<(), Fail>
     let rows = "
 solve
 solve a b
-certify f
+verify f
+certify
+certify f b
+certify f --seed 12
+certify f --seed 00112233445566778899aabbccddeeff00112233445566778899aabbccddeefg
+certify f --talk x
+certify f --nodes 0
+certify f --repeat 2
+certify f --talk --talk
+exercise 0
 solve --help
 solve f -- b
 solve f --node 7
@@ -253,7 +308,14 @@ solve f --pairs 33554433";
         let words = words_of(alloc, row)?;
         let mut out = sink(alloc, Vec::new(alloc), 100)?;
         assert_eq!(rt;
-            run(alloc, &words, &mut SureFiles::new(b"p cnf 0 0\n"), &mut out),
+            run(
+                alloc,
+                &words,
+                &mut SureFiles::new(b"p cnf 0 0\n"),
+                &mut SureEntropy::new([0; 32]),
+                &mut NoWatch::new(),
+                &mut out
+            ),
             1,
             "{row}"
         );
@@ -274,12 +336,23 @@ fn a_fault_of_the_files_is_a_read_fault(rt: HostRuntime) -> Result<(), Fail> {
         ("solve f", none(), vec![in alloc; 0u64]?),
         ("solve f", none(), vec![in alloc; 2u64]?),
         ("solve f", none(), vec![in alloc; 4u64]?),
+        ("certify f", none(), vec![in alloc; 2u64]?),
     ];
     for (words, failing, takes_failing) in rows {
         let words = words_of(alloc, words)?;
         let mut files = files(alloc, text, failing, takes_failing)?;
         let mut out = sink(alloc, Vec::new(alloc), 100)?;
-        assert_eq!(rt; run(alloc, &words, &mut files, &mut out), 3);
+        assert_eq!(rt;
+            run(
+                alloc,
+                &words,
+                &mut files,
+                &mut SureEntropy::new([0; 32]),
+                &mut NoWatch::new(),
+                &mut out
+            ),
+            3
+        );
         assert_eq!(rt; out.bytes(), b"c read fault\n".as_slice());
         assert_eq!(rt; files.faults(), 1);
     }
@@ -295,8 +368,165 @@ fn a_fault_of_the_output_leaves_a_front_of_the_line(rt: HostRuntime) -> Result<(
     for (failing, room, front) in rows {
         let mut files = files(alloc, text, Vec::new(alloc), Vec::new(alloc))?;
         let mut out = sink(alloc, vec![in alloc; failing]?, room)?;
-        assert_eq!(rt; run(alloc, &words, &mut files, &mut out), 4);
+        let mut entropy = SureEntropy::new([0; 32]);
+        let mut watch = NoWatch::new();
+        let got = run(
+            alloc,
+            &words,
+            &mut files,
+            &mut entropy,
+            &mut watch,
+            &mut out,
+        );
+        assert_eq!(rt; got, 4);
         assert_eq!(rt; out.bytes(), front);
+    }
+    Ok(())
+}
+
+#[test]
+fn a_certified_answer_comes_with_its_numbers(rt: HostRuntime) -> Result<(), Fail> {
+    for (file, status, lines) in [
+        (
+            "p cnf 2 2/a 1 0/e 2 0/1 2 0/-1 -2 0/",
+            10,
+            "s cnf 1 2 2/runs 1/draws 7/bad 20/",
+        ),
+        (
+            "p cnf 2 2/e 2 0/a 1 0/1 2 0/-1 -2 0/",
+            20,
+            "s cnf 0 2 2/runs 1/draws 7/bad 20/",
+        ),
+        ("p cnf 0 0/", 10, "s cnf 1 0 0/runs 1/draws 0/bad 0/"),
+        ("p cnf 1 1/0/", 20, "s cnf 0 1 1/runs 1/draws 0/bad 0/"),
+        (
+            "p cnf 1 2/e 1 0/1 -1 0/1 1 0/",
+            10,
+            "s cnf 1 1 2/runs 1/draws 3/bad 8/",
+        ),
+        (
+            "p cnf 2 1%/e 1 2 0%/1%/c middle%/2 0%/",
+            10,
+            "s cnf 1 2 1/runs 1/draws 3/bad 12/",
+        ),
+        (
+            "p cnf 4 2/e 1 2 3 4 0/1 2 0/3 4 0/",
+            10,
+            "s cnf 1 4 2/runs 1/draws 14/bad 48/",
+        ),
+        (
+            "p cnf 6 9/1 2 0/3 4 0/5 6 0/-1 -3 0/-1 -5 0/-3 -5 0/-2 -4 0/-2 -6 0/-4 -6 0/",
+            20,
+            "s cnf 0 6 9/runs 1/draws 70/bad 182/",
+        ),
+        ("p cnf 1 1/1 x 0/", 2, "c refused BadToken line 2/"),
+    ] {
+        let alloc = rt.alloc();
+        let text = lines_of(alloc, file)?;
+        assert_runs(&rt, alloc, "certify f", "", text.as_slice(), status, lines)?;
+    }
+    Ok(())
+}
+
+const UNIT: &str = "p cnf 1 1/e 1 0/1 0/";
+
+// The frames of the conversation about one unit clause, as they are printed.
+const UNIT_TALK: &str = "> 0000002601000100010000\
+    19c093b901df91f40f515cc7134e7ed67fcffecb3edd7d0c61a513ac4f5f1354/\
+    < 000000018101/> 0000000002/< 000000108300000000000000000000000000000001/> 0000000005/";
+
+// Certifies the unit clause over the watch, and asserts the status and what is printed.
+fn assert_watched<W: Watch>(
+    rt: &impl Abort,
+    alloc: Global,
+    options: &str,
+    watch: &mut W,
+    status: u8,
+    lines: &str,
+) -> Result<(), Fail> {
+    let mut words = words_of(alloc, "certify f")?;
+    words.append(&mut words_of(alloc, options)?)?;
+    let mut out = sink(alloc, Vec::new(alloc), 1000)?;
+    let text = lines_of(alloc, UNIT)?;
+    let mut entropy = SureEntropy::new([7; 32]);
+    let got = run(
+        alloc,
+        &words,
+        &mut SureFiles::new(text.as_slice()),
+        &mut entropy,
+        watch,
+        &mut out,
+    );
+    assert_eq!(rt; got, status, "{lines}");
+    assert_eq!(rt; out.bytes(), lines_of(alloc, lines)?.as_slice());
+    Ok(())
+}
+
+const UNIT_NUMBERS: &str = "s cnf 1 1 1/runs 1/draws 0/bad 0/";
+
+#[test]
+fn with_talk_each_frame_is_a_line(rt: HostRuntime) -> Result<(), Fail> {
+    let alloc = rt.alloc();
+    let mut lines = String::from_str(alloc, UNIT_TALK)?;
+    lines.push_str(UNIT_NUMBERS)?;
+    let mut watch = MemWatch::new(alloc);
+    assert_watched(&rt, alloc, "--talk", &mut watch, 10, lines.as_str())?;
+    assert!(rt; watch.whole());
+    assert_eq!(rt; watch.frames(), 5);
+    let mut silent = MemWatch::new(alloc);
+    assert_watched(&rt, alloc, "", &mut silent, 10, UNIT_NUMBERS)?;
+    assert_eq!(rt; silent.frames(), 5);
+    for i in 0..5 {
+        if i < watch.frames() && i < silent.frames() {
+            assert_eq!(rt; watch.frame(i), silent.frame(i));
+        }
+    }
+    Ok(())
+}
+
+#[test]
+fn a_reply_is_judged_as_the_watch_left_it(rt: HostRuntime) -> Result<(), Fail> {
+    let alloc = rt.alloc();
+    for (byte, status, line) in [
+        (0, 6, "c rejected node 3 combine/"),
+        (2, 13, "c not a frame/"),
+        (1, 10, UNIT_NUMBERS),
+    ] {
+        let bend = Bend {
+            reply: 0,
+            place: 5,
+            byte,
+        };
+        let mut watch = BendWatch::new(alloc, vec![in alloc; bend]?);
+        assert_watched(&rt, alloc, "", &mut watch, status, line)?;
+    }
+    Ok(())
+}
+
+#[test]
+fn the_seed_is_that_of_the_words_or_of_the_entropy(rt: HostRuntime) -> Result<(), Fail> {
+    let alloc = rt.alloc();
+    let seed = "certify f --seed 00112233445566778899aabbccddeeff00112233445566778899AABBCCDDEEFF";
+    for (words, status, line) in [
+        ("certify f", 11, "c entropy fault/"),
+        (seed, 10, "s cnf 1 2 2/runs 1/draws 7/bad 20/"),
+    ] {
+        let words = words_of(alloc, words)?;
+        let mut out = sink(alloc, Vec::new(alloc), 100)?;
+        let text = lines_of(alloc, "p cnf 2 2/a 1 0/e 2 0/1 2 0/-1 -2 0/")?;
+        let mut entropy = MemEntropy::new(Vec::new(alloc), Vec::new(alloc));
+        let mut watch = NoWatch::new();
+        let mut files = SureFiles::new(text.as_slice());
+        let got = run(
+            alloc,
+            &words,
+            &mut files,
+            &mut entropy,
+            &mut watch,
+            &mut out,
+        );
+        assert_eq!(rt; got, status);
+        assert_eq!(rt; out.bytes(), lines_of(alloc, line)?.as_slice());
     }
     Ok(())
 }

@@ -1,0 +1,5 @@
+pub mod Answering
+pub mod Filled
+pub mod FlatPoints
+pub mod Rooms
+pub mod Solved

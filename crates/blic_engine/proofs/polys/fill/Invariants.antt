@@ -1,0 +1,16 @@
+use Rattle.std.proofs.Common.{◌≡◌, ◌≤◌, ◌+◌, ◌*◌, take}
+use Rattle.std.specs.Prelude.{map}
+use Rattle.blic_model.specs.Circuit.{below}
+use Rattle.blic_engine.specs.Costs.{most_products}
+use Rattle.blic_engine.specs.Polys.{stored_poly}
+use Rattle.blic_engine.specs.Rooms.{HasRoom}
+use Rattle.blic_engine.proofs.polys.fill.Given as goal
+
+-- the polynomials so far
+abbrev pub invariant-loop-claim : goal.invariant-loop-claim
+invariant-loop-claim g l = record {
+  filled : take l.claim l.out ≡ map (stored_poly l.engine l.points l.node l.j) (below l.claim);
+  room : HasRoom l.engine l.scratch l.point;
+  at_most : l.steps ≤ l.initial.steps + l.claim * most_products l.engine l.node;
+  at_least : l.initial.steps ≤ l.steps;
+}

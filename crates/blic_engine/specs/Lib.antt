@@ -1,0 +1,4 @@
+pub mod Costs
+pub mod Joins
+pub mod Polys
+pub mod Rooms

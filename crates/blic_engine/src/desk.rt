@@ -1,0 +1,100 @@
+// What one worker answers with.
+ghost use Rattle.std.specs.Prelude.{◌≡◌, IfOk};
+
+use crate::engine::Engine;
+use crate::polys::fill;
+use crate::values::operand_values;
+use blic_basic::{NoMem, Steps};
+use blic_claims::{Answers, Points};
+use blic_eval::Scratch;
+use blic_field::Fe;
+use blic_poly2::Poly2;
+use std::alloc::Global;
+use std::marker::Model;
+use std::sync::ledger::Ledger;
+
+/// One worker's place at an engine: answers about the engine's circuit, with the room that they take,
+/// so that no answer takes memory. For each claim it makes at most four products of elements for each
+/// decision of the circuit's functions and each pair of the node's operands. Contracts see the circuit.
+#[derive(Drop)]
+pub struct Desk<'e> {
+    engine: &'e Engine<'e>,
+    scratch: Scratch,
+    point: Vec<Fe>,
+}
+
+impl<'e> Model for Desk<'e> {
+    ghost use Rattle.blic_model.specs.Circuit.{OrderedCircuit};
+    ghost use Rattle.blic_engine.specs.Rooms.{HasRoom};
+
+    ghost Value = { OrderedCircuit };
+
+    ghost view = { λ d. d.engine.now };
+
+    ghost invariant = { λ d. HasRoom d.engine.now d.scratch d.point.items };
+}
+
+impl<'e> Desk<'e> {
+    /// A place with room for the engine's decisions, for its largest graph and for one point.
+    /// `drop_every` is the number of sessions after which a worker's own cells are dropped, of which
+    /// this version has none. Fails only for want of memory.
+    pub fn new(alloc: Global, engine: &'e Engine<'e>, _drop_every: u32) -> Result<Desk<'e>, NoMem>
+        ensures { IfOk result (λ desk. desk ≡ engine.now) }
+    {
+        let circuit = engine.circuit();
+        circuit.is_within_limits();
+        let plan = engine.plan();
+        let scratch = Scratch::new(alloc, plan.store().len(), plan.largest_graph())?;
+        let point = vec![in alloc; Fe::ZERO; circuit.levels() as usize]?;
+        Ok(Desk {
+            engine,
+            scratch,
+            point,
+        })
+    }
+}
+
+impl<'e> Answers for Desk<'e> {
+    ghost use Rattle.blic_engine.specs.Costs.{most_products};
+
+    ghost circuit = { λ c. c };
+
+    ghost most = { most_products };
+
+    fn answer(&mut self) -> bool {
+        self.engine.answer()
+    }
+
+    fn polys<L: Ledger>(
+        &mut self,
+        points: &Points,
+        node: u32,
+        j: u32,
+        out: &mut [Poly2],
+        steps: &mut Steps<L>,
+    ) {
+        fill(
+            self.engine,
+            points,
+            node,
+            j,
+            out,
+            &mut self.scratch,
+            &mut self.point,
+            steps,
+        );
+    }
+
+    fn values<L: Ledger>(&mut self, points: &Points, node: u32, steps: &mut Steps<L>) -> (Fe, Fe) {
+        operand_values(
+            self.engine,
+            points,
+            node,
+            &mut self.scratch,
+            &mut self.point,
+            steps,
+        )
+    }
+
+    fn between(&mut self, _session: u32) {}
+}

@@ -1,0 +1,15 @@
+//! Answers about a circuit by decision diagrams, which are made once for all workers.
+#![tactic(auto)]
+
+mod desk;
+mod engine;
+mod join;
+mod load;
+mod polys;
+mod values;
+
+pub use desk::Desk;
+pub use engine::Engine;
+
+#[cfg(test)]
+mod tests;

@@ -1,0 +1,62 @@
+-- What there is to say once the lines before it are printed, as private contracts speak of it.
+use Rattle.std.specs.Prelude.{◌≡◌, ℕ, List, [], cond, take, Option, Some, None, Result, Ok, Err}
+use Rattle.std.specs.Io.KnownBytes.{append_known}
+use Rattle.blic_basic.specs.Outside.{Rose}
+use Rattle.blic_basic.specs.Seeding.{Seeds}
+use Rattle.blic_basic.specs.declared.entropy.Seeded.TheVariants as seeded
+use Rattle.blic_model.specs.Formula.{PrenexFormula}
+use Rattle.blic_qdimacs.specs.declared.error.ReadError.{ReadError}
+use Rattle.blic_top.specs.Words.{CertifyWords, Request, SolveWords}
+use Rattle.blic_top.specs.World.{World, IsShown}
+use Rattle.blic_top.specs.OfFile.{IsFileOf, MayRefuse}
+use Rattle.blic_top.specs.Certifying.{CertifiesFormula, IsConversing}
+use Rattle.blic_top.specs.Means.{Means, IsUnderWay, SaysOfFormula}
+use Rattle.blic_top.specs.Ends.{lines_before, OutcomeCounts}
+use Rattle.blic_top.specs.Printing.{talk_text}
+use Rattle.blic_top.specs.declared.outcome.Outcome.{Outcome}
+use Rattle.blic_top.specs.declared.outcome.Outcome.TheVariants.{NotRead}
+
+-- what reading a file answers
+abbrev pub ReadsFile : Option (List ℕ → Option (List ℕ)) → List ℕ → Result PrenexFormula ReadError → Type 0
+ReadsFile files name (Ok f) = IsFileOf f files name
+ReadsFile files name (Err error) = MayRefuse files name error
+
+-- the lines of a conversation, where they are to be printed
+abbrev pub talk_lines : CertifyWords → List (List ℕ) → List ℕ
+talk_lines w frames = cond w.talk (talk_text frames) []
+
+-- of a formula: an outcome that may come, with the lines of the frames printed before it; or a conversation under way, with a front of them
+abbrev pub DecidesOfFormula : PrenexFormula → CertifyWords → World → Option (List ℕ) → Option (List ℕ) → Option Outcome → Type 0
+DecidesOfFormula f w world old new (Some outcome) =
+    (frames : List (List ℕ)) × IsShown world frames × CertifiesFormula f w world frames outcome × (new ≡ append_known old (talk_lines w frames))
+DecidesOfFormula f w world old new None =
+    (frames : List (List ℕ)) × IsShown world frames × IsConversing f w world frames × (n : ℕ) × (new ≡ append_known old (take n (talk_lines w frames)))
+
+-- of all words: the same
+abbrev pub Decides : Option Request → World → Option (List ℕ) → Option (List ℕ) → Option Outcome → Type 0
+Decides request world old new (Some outcome) =
+    (frames : List (List ℕ)) × IsShown world frames × Means request world frames outcome × (new ≡ append_known old (lines_before request frames))
+Decides request world old new None =
+    (frames : List (List ℕ)) × IsShown world frames × IsUnderWay request world frames × (n : ℕ) × (new ≡ append_known old (take n (lines_before request frames)))
+
+-- the causes of faults: those of the files, of the entropy and of the output
+abbrev pub DecideCounts : ℕ → ℕ → ℕ → ℕ → ℕ → ℕ → Option Outcome → Type 0
+DecideCounts files files_now seeds seeds_now written written_now (Some outcome) = OutcomeCounts files files_now seeds seeds_now outcome × (written_now ≡ written)
+DecideCounts files files_now seeds seeds_now written written_now None = (files_now ≡ files) × (seeds_now ≡ seeds) × Rose written written_now
+
+-- the seed is the one that is given, and no other is taken; or the next one that comes, if any does
+abbrev pub IsSeeded : Option (List ℕ) → Option (ℕ → Option (List ℕ)) → Option (ℕ → Option (List ℕ)) → Option (List ℕ) → Type 0
+IsSeeded (Some given) old new (Some seed) = (seed ≡ given) × (new ≡ old)
+IsSeeded (Some given) old new None = ⊥
+IsSeeded None old new (Some seed) = Seeds old new (seeded.Seed seed)
+IsSeeded None old new None = new ≡ old
+
+-- only a fault raises the count
+abbrev pub SeedingCounts : ℕ → ℕ → Option (List ℕ) → Type 0
+SeedingCounts before now (Some seed) = now ≡ before
+SeedingCounts before now None = Rose before now
+
+-- what solving the formula of a file may say
+abbrev pub SolvesFile : Option (List ℕ → Option (List ℕ)) → SolveWords → Outcome → Type 0
+SolvesFile files w (NotRead error) = MayRefuse files w.file error
+SolvesFile files w outcome = (f : PrenexFormula) × IsFileOf f files w.file × SaysOfFormula f w.limits outcome

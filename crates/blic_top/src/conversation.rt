@@ -1,0 +1,437 @@
+// Prover and verifier in one process: each frame that a link would carry is made, shown to a watch and judged.
+ghost use Rattle.std.specs.Prelude.{◌≡◌, ◌≢◌, ◌≤◌, ◌+◌, ◌*◌, ◌<◌, ◌^◌, ◌∷◌, ◌++◌, [], ℕ, List, Option, length, take, true, false, cond, IfOk, slice_index};
+ghost use Rattle.blic_basic.specs.Watching.{Adds};
+ghost use Rattle.blic_draw.specs.Draws.{DrawsFrom, draw_at};
+ghost use Rattle.blic_claims.specs.Places.{layout_of};
+ghost use Rattle.blic_messages.specs.Frames.{ask_spelling, reply_spelling};
+ghost use Rattle.blic_messages.specs.Reading.{Reads};
+ghost use Rattle.blic_messages.specs.Replies.{Said, Refused};
+ghost use Rattle.blic_messages.specs.declared.reply.Refusal.{Refusal as RefusalOf};
+ghost use Rattle.blic_messages.specs.declared.ask.Ask.TheVariants.{Hello as AskHello, Bye as AskBye};
+ghost use Rattle.blic_messages.specs.declared.ask.Ask.{Ask as AskOf};
+ghost use Rattle.blic_prover.specs.Standing.{StandsFor as ProverStandsFor};
+ghost use Rattle.blic_verifier.specs.Verdict.{Talk, Silent, is_in_turn};
+ghost use Rattle.blic_verifier.specs.Standing.{StandsFor as VerifierStandsFor, is_over, wants_draw};
+ghost use Rattle.blic_verifier.specs.Conversation.{Awaits, go_on as goes_on, honest_reply, read_on};
+ghost use Rattle.blic_top.specs.Printing.{Prints, PrintCounts, talk_text};
+ghost use Rattle.blic_top.specs.Talking.{ArePrinted, ExchangeCounts, HasCome, HasRoom, IsAsked, IsAt, IsFitted, IsFollowed, IsParted, IsSaidOf, IsSame, IsTaken, IsTalk, IsWay, TalkCounts, lines_of};
+ghost use Rattle.blic_top.specs.Wire.{IsCarried};
+ghost use Rattle.blic_top.specs.World.{Shows};
+
+use crate::outcome::Failure;
+use crate::printing::{WriteFault, print_frame};
+use blic_basic::{NoMem, Sink, Steps, Watch};
+use blic_claims::{Answers, Layout, claims_law};
+use blic_draw::Draws;
+use blic_field::Fe;
+use blic_messages::{Ask, Hello, decode_reply, encode_ask, encode_reply};
+use blic_model::Circuit;
+use blic_poly2::Poly2;
+use blic_prover::{Prover, Step};
+use blic_verifier::{Next, Verifier, honest_reply_law};
+use std::alloc::Global;
+use std::sync::ledger::Ledger;
+
+/// The length of the longest ask's frame.
+const LONGEST_ASK: usize = 43;
+
+/// How a conversation went.
+#[derive(Clone, Copy)]
+pub(crate) enum Talked {
+    /// The verifier accepted this answer.
+    Certified(bool),
+    Failed(Failure),
+    /// A line could not be printed, and the conversation was broken off.
+    Unprinted,
+}
+
+/// What comes after an ask and its reply.
+#[derive(Clone, Copy)]
+pub(crate) enum Exchanged {
+    Asks(Ask),
+    Ends(Talked),
+}
+
+/// A prover and a verifier of one circuit, with all the memory that a conversation of theirs takes.
+#[derive(Drop)]
+pub(crate) struct Conversation<'c> {
+    circuit: &'c Circuit,
+    hello: Hello,
+    turns: u64,
+    prover: Prover<'c>,
+    verifier: Verifier<'c>,
+    frame: Vec<u8>,
+    polys: Vec<Poly2>,
+    hex: Vec<u8>,
+    talk: bool,
+}
+
+impl<'c> Conversation<'c> {
+    /// A conversation about the circuit, which `hello` names, before its first ask. With `talk` a line
+    /// is printed for each frame. No other call takes memory.
+    pub(crate) fn new(
+        alloc: Global,
+        circuit: &'c Circuit,
+        layout: &'c Layout,
+        hello: Hello,
+        talk: bool,
+    ) -> Result<Conversation<'c>, NoMem>
+        requires { layout.now ≡ layout_of circuit.now }
+        ensures fitted { IfOk result (λ x. IsFitted x) }
+        ensures same { IfOk result (λ x. (x.circuit.now ≡ circuit.now) × (x.hello ≡ hello) × (x.talk ≡ talk)) }
+        ensures silent { IfOk result (λ x. (d : DrawsFrom) → d.place ≡ 0 → IsAt x d [] (AskHello hello) Silent) }
+    {
+        let most = layout.most_claims(circuit) as usize;
+        let room = LONGEST_ASK + 24 * most;
+        let none = Poly2 {
+            c0: Fe::ZERO,
+            c1: Fe::ZERO,
+            c2: Fe::ZERO,
+        };
+        Ok(Conversation {
+            circuit,
+            hello,
+            turns: layout.replies(),
+            prover: Prover::new(alloc, circuit, layout, hello)?,
+            verifier: Verifier::new(alloc, circuit, layout)?,
+            frame: vec![in alloc; 0; room]?,
+            polys: vec![in alloc; none; most]?,
+            hex: vec![in alloc; 0; 2 * room]?,
+            talk,
+        })
+    }
+
+    /// Holds the conversation from its first ask on, with what `answers` knows of the circuit.
+    pub(crate) fn hold<A: Answers, W: Watch, O: Sink, L: Ledger>(
+        &mut self,
+        answers: &mut A,
+        draws: &mut Draws,
+        watch: &mut W,
+        out: &mut O,
+        steps: &mut Steps<L>,
+    ) -> Talked
+        requires fitted { IsFitted self.old }
+        requires answers { A.circuit answers.old ≡ self.old.circuit.now }
+        requires draws { draws.old.place ≡ 0 }
+        requires silent { IsAt self.old draws.old [] (AskHello self.old.hello) Silent }
+        ensures talk { (frames : List (List ℕ)) × Shows (W.frames watch.old) (W.frames watch.new) frames
+            × IsTalk self.old (draw_at draws.old.seed) (W.alters watch.old) frames (O.held out.old) (O.held out.new) result }
+        ensures cause { TalkCounts (O.faults out.old) (O.faults out.new) result }
+    {
+        match self.talk(answers, draws, watch, out, steps) {
+            Talked::Certified(answer) => self.part(answer, watch, out),
+            talked => talked,
+        }
+    }
+
+    // One ask after another, as long as the conversation goes on.
+    fn talk<A: Answers, W: Watch, O: Sink, L: Ledger>(
+        &mut self,
+        answers: &mut A,
+        draws: &mut Draws,
+        watch: &mut W,
+        out: &mut O,
+        steps: &mut Steps<L>,
+    ) -> Talked
+        requires fitted { IsFitted self.old }
+        requires answers { A.circuit answers.old ≡ self.old.circuit.now }
+        requires draws { draws.old.place ≡ 0 }
+        requires silent { IsAt self.old draws.old [] (AskHello self.old.hello) Silent }
+        ensures fitted { IsFitted self.new }
+        ensures same { IsSame self.old self.new }
+        ensures alters { W.alters watch.new ≡ W.alters watch.old }
+        ensures way { (way : List (List ℕ)) × Shows (W.frames watch.old) (W.frames watch.new) way
+            × IsWay self.old (draw_at draws.old.seed) (W.alters watch.old) way (O.held out.old) (O.held out.new) result }
+        ensures cause { TalkCounts (O.faults out.old) (O.faults out.new) result }
+    {
+        let mut ask = Ask::Hello(self.hello);
+        for _ in 0..=self.turns {
+            match self.exchange(&ask, answers, draws, watch, out, steps) {
+                Exchanged::Asks(next) => ask = next,
+                Exchanged::Ends(talked) => return talked,
+            }
+        }
+        // Not reached: there are no more turns.
+        Talked::Unprinted
+    }
+
+    // An ask and its reply, which the verifier judges as it came.
+    fn exchange<A: Answers, W: Watch, O: Sink, L: Ledger>(
+        &mut self,
+        ask: &Ask,
+        answers: &mut A,
+        draws: &mut Draws,
+        watch: &mut W,
+        out: &mut O,
+        steps: &mut Steps<L>,
+    ) -> Exchanged
+        requires fitted { IsFitted self.old }
+        requires answers { A.circuit answers.old ≡ self.old.circuit.now }
+        requires at { (asks : List AskOf) × (t : Talk) × IsAt self.old draws.old asks ask.now t }
+        ensures fitted { IsFitted self.new }
+        ensures same { IsSame self.old self.new }
+        ensures answers { A.circuit answers.new ≡ A.circuit answers.old }
+        ensures seed { draws.new.seed ≡ draws.old.seed }
+        ensures alters { W.alters watch.new ≡ W.alters watch.old }
+        ensures exchanged { (asks : List AskOf) (t : Talk) → IsAt self.old draws.old asks ask.now t
+            → (came : List ℕ) × Shows (W.frames watch.old) (W.frames watch.new) (ask_spelling ask.now ∷ came ∷ [])
+            × HasCome self.old self.new draws.old draws.new (W.alters watch.old) asks ask.now t came result
+            × ArePrinted (O.held out.old) (O.held out.new) (lines_of self.old (ask_spelling ask.now ∷ came ∷ [])) result }
+        ensures cause { ExchangeCounts (O.faults out.old) (O.faults out.new) result }
+    {
+        self.circuit.is_within_limits();
+        claims_law();
+        let mut asked = [0; LONGEST_ASK];
+        let asked_len = show_ask(ask, &mut asked, watch);
+        let came_len = self.show_reply(ask, answers, watch, steps);
+        let exchanged = self.judge(came_len, draws, steps);
+        match self.print(&asked[..asked_len], came_len, out) {
+            Ok(()) => exchanged,
+            Err(WriteFault) => Exchanged::Ends(Talked::Unprinted),
+        }
+    }
+
+    // Shows the prover's reply to the watch, which leaves it at the front of the buffer. Answers its length.
+    fn show_reply<A: Answers, W: Watch, L: Ledger>(
+        &mut self,
+        ask: &Ask,
+        answers: &mut A,
+        watch: &mut W,
+        steps: &mut Steps<L>,
+    ) -> usize
+        requires fitted { IsFitted self.old }
+        requires answers { A.circuit answers.old ≡ self.old.circuit.now }
+        requires asked { (asks : List AskOf) × (t : Talk) × (n : ℕ) × IsAsked self.old.prover asks ask.now t n }
+        ensures fitted { IsFitted self.new }
+        ensures same { IsSame self.old self.new }
+        ensures verifier { self.new.verifier ≡ self.old.verifier }
+        ensures answers { A.circuit answers.new ≡ A.circuit answers.old }
+        ensures length { (5 ≤ result) × (result + 15 ≤ length self.new.frame.items) }
+        ensures stands { (asks : List AskOf) → ProverStandsFor self.old.prover asks → ProverStandsFor self.new.prover (asks ++ ask.now ∷ []) }
+        ensures alters { W.alters watch.new ≡ W.alters watch.old }
+        ensures list { Adds (W.frames watch.old) (W.frames watch.new) (take result self.new.frame.items) }
+        ensures carried { (asks : List AskOf) (t : Talk) (n : ℕ) → IsAsked self.old.prover asks ask.now t n
+            → IsCarried (W.alters watch.old) (reply_spelling (honest_reply self.old.circuit.now t)) (take result self.new.frame.items) }
+    {
+        let len = reply(
+            &mut self.prover,
+            self.circuit,
+            answers,
+            ask,
+            &mut self.frame,
+            steps,
+        );
+        show(&mut self.frame, len, watch);
+        len
+    }
+
+    // Judges the reply at the front of the buffer.
+    fn judge<L: Ledger>(&mut self, len: usize, draws: &mut Draws, steps: &mut Steps<L>) -> Exchanged
+        requires fitted { IsFitted self.old }
+        requires length { len + 15 ≤ length self.old.frame.items }
+        requires going { (is_over self.old.verifier.stage ≡ false) × (wants_draw self.old.verifier.stage ≡ false) }
+        requires talked { (t : Talk) × VerifierStandsFor self.old.verifier t }
+        requires draws { draws.old.place < 2 ^ 60 }
+        requires no_refusal { (r : RefusalOf) → take len self.old.frame.items ≡ reply_spelling (Refused r) → ⊥ }
+        ensures fitted { IsFitted self.new }
+        ensures same { IsSame self.old self.new }
+        ensures prover { self.new.prover ≡ self.old.prover }
+        ensures frame { self.new.frame ≡ self.old.frame }
+        ensures seed { draws.new.seed ≡ draws.old.seed }
+        ensures judged { (says : Option Said) × Reads (take len self.old.frame.items) says × ((ask : AskOf) (t : Talk) → VerifierStandsFor self.old.verifier t
+            → IsFollowed self.new.verifier draws.new (read_on self.old.circuit.now (draw_at draws.old.seed) (Awaits ask t draws.old.place) says) result) }
+    {
+        match take_frame(
+            &mut self.verifier,
+            &self.frame[..len],
+            &mut self.polys,
+            steps,
+        ) {
+            None => Exchanged::Ends(Talked::Failed(Failure::NotFrame)),
+            Some(next) => go_on(&mut self.verifier, next, draws, steps),
+        }
+    }
+
+    // Prints the lines of an ask's frame and of the reply's, which is at the front of the buffer.
+    fn print<O: Sink>(
+        &mut self,
+        asked: &[u8],
+        came_len: usize,
+        out: &mut O,
+    ) -> Result<(), WriteFault>
+        requires fitted { IsFitted self.old }
+        requires asked { (5 ≤ length asked.now) × (length asked.now ≤ 43) }
+        requires came { (5 ≤ came_len) × (came_len ≤ length self.old.frame.items) }
+        ensures fitted { IsFitted self.new }
+        ensures same { IsSame self.old self.new }
+        ensures machines { (self.new.prover ≡ self.old.prover) × (self.new.verifier ≡ self.old.verifier) }
+        ensures bytes { Prints (O.held out.old) (O.held out.new) result (lines_of self.old (asked.now ∷ take came_len self.old.frame.items ∷ [])) }
+        ensures cause { PrintCounts (O.faults out.old) (O.faults out.new) result }
+    {
+        if !self.talk {
+            return Ok(());
+        }
+        print_frames(out, asked, &self.frame[..came_len], &mut self.hex)
+    }
+
+    // The verifier ends the conversation, whose answer it accepted.
+    fn part<W: Watch, O: Sink>(&mut self, answer: bool, watch: &mut W, out: &mut O) -> Talked
+        requires fitted { IsFitted self.old }
+        ensures list { Adds (W.frames watch.old) (W.frames watch.new) (ask_spelling AskBye) }
+        ensures told { IsParted (O.held out.old) (O.held out.new) (lines_of self.old (ask_spelling AskBye ∷ [])) answer result }
+        ensures cause { TalkCounts (O.faults out.old) (O.faults out.new) result }
+    {
+        let mut asked = [0; LONGEST_ASK];
+        let len = show_ask(&Ask::Bye, &mut asked, watch);
+        if !self.talk {
+            return Talked::Certified(answer);
+        }
+        match print_frame(out, &asked[..len], &mut self.hex) {
+            Ok(()) => Talked::Certified(answer),
+            Err(WriteFault) => Talked::Unprinted,
+        }
+    }
+}
+
+// Prints the lines of two frames.
+fn print_frames<O: Sink>(
+    out: &mut O,
+    asked: &[u8],
+    came: &[u8],
+    hex: &mut [u8],
+) -> Result<(), WriteFault>
+    requires asked { (5 ≤ length asked.now) × (2 * length asked.now ≤ length hex.old) }
+    requires came { (5 ≤ length came.now) × (2 * length came.now ≤ length hex.old) }
+    ensures bytes { Prints (O.held out.old) (O.held out.new) result (talk_text (asked.now ∷ came.now ∷ [])) }
+    ensures cause { PrintCounts (O.faults out.old) (O.faults out.new) result }
+    ensures room { length hex.new ≡ length hex.old }
+{
+    match print_frame(out, asked, hex) {
+        Ok(()) => print_frame(out, came, hex),
+        Err(fault) => Err(fault),
+    }
+}
+
+// Shows an ask's frame to the watch. It stands at the front of the buffer, and its length is answered.
+fn show_ask<W: Watch>(ask: &Ask, frame: &mut [u8], watch: &mut W) -> usize
+    requires { 43 ≤ length frame.old }
+    ensures length { result ≤ length frame.new }
+    ensures written { take result frame.new ≡ ask_spelling ask.now }
+    ensures alters { W.alters watch.new ≡ W.alters watch.old }
+    ensures list { Adds (W.frames watch.old) (W.frames watch.new) (ask_spelling ask.now) }
+{
+    ask_frame_law(ask);
+    let len = encode_ask(ask, frame);
+    show(frame, len, watch);
+    len
+}
+
+// Shows the frame at the front of the buffer to the watch, which leaves it there.
+fn show<W: Watch>(frame: &mut [u8], len: usize, watch: &mut W)
+    requires { (5 ≤ len) × (len ≤ length frame.old) }
+    ensures length { length frame.new ≡ length frame.old }
+    ensures asks { slice_index frame.old 4 < 129 → take len frame.new ≡ take len frame.old }
+    ensures carried { IsCarried (W.alters watch.old) (take len frame.old) (take len frame.new) }
+    ensures alters { W.alters watch.new ≡ W.alters watch.old }
+    ensures list { Adds (W.frames watch.old) (W.frames watch.new) (take len frame.new) }
+{
+    watch.saw(&mut frame[..len]);
+}
+
+// The length and the kind of an ask's frame.
+fn ask_frame_law(ask: &Ask)
+    ensures { (5 ≤ length (ask_spelling ask.now)) × (length (ask_spelling ask.now) ≤ 43) × (slice_index (ask_spelling ask.now) 4 < 129) }
+{
+    if let Ask::Hello(hello) = ask {
+        let _ = digest_len(hello);
+    }
+}
+
+fn digest_len(hello: &Hello) -> usize
+    ensures length { result ≡ length hello.now.digest }
+    ensures number { result ≡ 32 }
+{
+    let digest = hello.digest;
+    digest.len()
+}
+
+// Puts the frame of the prover's reply at the front of the buffer. Answers its length.
+fn reply<A: Answers, L: Ledger>(
+    prover: &mut Prover<'_>,
+    circuit: &Circuit,
+    answers: &mut A,
+    ask: &Ask,
+    frame: &mut [u8],
+    steps: &mut Steps<L>,
+) -> usize
+    requires circuit { prover.old.circuit ≡ circuit.now }
+    requires answers { A.circuit answers.old ≡ circuit.now }
+    requires room { (polys : ℕ) × HasRoom circuit.now (length frame.old) polys }
+    requires asked { (asks : List AskOf) × (t : Talk) × (n : ℕ) × IsAsked prover.old asks ask.now t n }
+    ensures circuit { prover.new.circuit ≡ prover.old.circuit }
+    ensures served { prover.new.served ≡ prover.old.served }
+    ensures answers { A.circuit answers.new ≡ A.circuit answers.old }
+    ensures stands { (asks : List AskOf) → ProverStandsFor prover.old asks → ProverStandsFor prover.new (asks ++ ask.now ∷ []) }
+    ensures room { length frame.new ≡ length frame.old }
+    ensures length { (5 ≤ result) × (result + 15 ≤ length frame.new) }
+    ensures written { (asks : List AskOf) (t : Talk) (n : ℕ) → IsAsked prover.old asks ask.now t n → take result frame.new ≡ reply_spelling (honest_reply circuit.now t) }
+{
+    circuit.is_within_limits();
+    claims_law();
+    honest_reply_law();
+    match prover.step(answers, ask, steps) {
+        Step::Reply(given) => encode_reply(&prover.shown(given), frame),
+        // The ask is the one that stands next.
+        _ => 0,
+    }
+}
+
+// What the verifier says of the reply that a frame spells, where it spells one.
+fn take_frame<L: Ledger>(
+    verifier: &mut Verifier<'_>,
+    frame: &[u8],
+    polys: &mut [Poly2],
+    steps: &mut Steps<L>,
+) -> Option<Next>
+    requires going { (is_over verifier.old.stage ≡ false) × (wants_draw verifier.old.stage ≡ false) }
+    requires room { length frame.now ≤ 28 + 24 * length polys.old }
+    ensures circuit { verifier.new.circuit ≡ verifier.old.circuit }
+    ensures taken { (says : Option Said) × Reads frame.now says × IsTaken verifier.old verifier.new says result }
+    ensures room { length polys.new ≡ length polys.old }
+{
+    match decode_reply(frame, polys) {
+        None => None,
+        Some(reply) => Some(verifier.take(&reply, steps)),
+    }
+}
+
+// What comes after the verifier said that. A draw is made where one stands next.
+fn go_on<L: Ledger>(
+    verifier: &mut Verifier<'_>,
+    next: Next,
+    draws: &mut Draws,
+    steps: &mut Steps<L>,
+) -> Exchanged
+    requires draws { draws.old.place < 2 ^ 60 }
+    requires said { IsSaidOf next verifier.old.stage }
+    requires going { next ≢ Next.Over }
+    ensures circuit { verifier.new.circuit ≡ verifier.old.circuit }
+    ensures seed { draws.new.seed ≡ draws.old.seed }
+    ensures follows { (t : Talk) → (is_in_turn next ≡ true → VerifierStandsFor verifier.old t) → IsFollowed verifier.new draws.new (goes_on (draw_at draws.old.seed) t draws.old.place next) result }
+{
+    match next {
+        Next::Draw => {
+            let r = draws.next();
+            verifier.drawn(r, steps);
+            Exchanged::Asks(Ask::Draw(r))
+        }
+        Next::Go => Exchanged::Asks(Ask::Go),
+        Next::Done(answer) => Exchanged::Ends(Talked::Certified(answer)),
+        Next::Rejected(place) => Exchanged::Ends(Talked::Failed(Failure::Rejected(place))),
+        Next::WrongKind { turn } => Exchanged::Ends(Talked::Failed(Failure::WrongKind(turn))),
+        Next::WrongCount { turn, want, got } => {
+            Exchanged::Ends(Talked::Failed(Failure::WrongCount(turn, want, got)))
+        }
+        Next::Over => Exchanged::Asks(Ask::Bye),
+    }
+}
