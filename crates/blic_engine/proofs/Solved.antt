@@ -17,11 +17,12 @@ use Rattle.blic_apply.specs.declared.operation.Op.{Op}
 use Rattle.blic_apply.specs.declared.operation.Op.TheVariants.{And, Or}
 use Rattle.blic_eval.specs.Extension.{extension, joined_poly}
 use Rattle.blic_eval.specs.Lines.{point_of}
+use Rattle.blic_eval.specs.Reached.{IsReached}
 use Rattle.blic_eval.proofs.CircuitValues.{conjunction, disjunction, same_joined, value_extension}
 use Rattle.blic_eval.proofs.Extensions.{extension_same}
 use Rattle.blic_solve.specs.Plan.{IsPlan, Solved, root_of}
 use Rattle.blic_engine.specs.Joins.{node_of}
-use Rattle.blic_engine.specs.Rooms.{AgreesAt, AreElements}
+use Rattle.blic_engine.specs.Rooms.{AgreesAt, AreElements, IsAbout}
 use Rattle.blic_engine.proofs.Answering.{operands_agree}
 
 pub is_pair : (m : Node) (op : Op) (a b : ℕ) → m ≡ node_of op a b → IsPair m a b
@@ -89,6 +90,23 @@ poly_from c plan shaped is k l op a b e j m point p decisions first second level
 operands_are : (m : Node) (op : Op) (a b : ℕ) → m ≡ node_of op a b → (a ≡ (operands m).0) × (b ≡ (operands m).1)
 operands_are m And a b e = (ap (λ z. (operands z).0) (sym e), ap (λ z. (operands z).1) (sym e))
 operands_are m Or a b e = (ap (λ z. (operands z).0) (sym e), ap (λ z. (operands z).1) (sym e))
+
+-- A list of what a node's operands lead to, where all is known by other names.
+pub reached_from : (c : OrderedCircuit) (plan : Solved) (k : ℕ) (op : Op) (a b : ℕ) → node_at c.nodes k ≡ node_of op a b → (decisions : List Decision) (first second : ℕ) (reached : List ℕ)
+    → decisions ≡ plan.store.nodes → first ≡ root_of plan a → second ≡ root_of plan b → IsAbout c.nodes plan k reached → IsReached decisions first second reached
+reached_from c plan k op a b e decisions first second reached ed ef es h =
+    let which = operands_are (node_at c.nodes k) op a b e in
+    subst (λ d. IsReached d first second reached) (sym ed)
+    (subst (λ f. IsReached plan.store.nodes f second reached) (sym (ef ∙ ap (root_of plan) which.0))
+    (subst (λ s. IsReached plan.store.nodes (root_of plan (operands (node_at c.nodes k)).0) s reached) (sym (es ∙ ap (root_of plan) which.1)) h))
+
+pub about_from : (c : OrderedCircuit) (plan : Solved) (k : ℕ) (op : Op) (a b : ℕ) → node_at c.nodes k ≡ node_of op a b → (decisions : List Decision) (first second : ℕ) (reached : List ℕ)
+    → decisions ≡ plan.store.nodes → first ≡ root_of plan a → second ≡ root_of plan b → IsReached decisions first second reached → IsAbout c.nodes plan k reached
+about_from c plan k op a b e decisions first second reached ed ef es h =
+    let which = operands_are (node_at c.nodes k) op a b e in
+    subst (λ s. IsReached plan.store.nodes (root_of plan (operands (node_at c.nodes k)).0) s reached) (es ∙ ap (root_of plan) which.1)
+    (subst (λ f. IsReached plan.store.nodes f second reached) (ef ∙ ap (root_of plan) which.0)
+    (subst (λ d. IsReached d first second reached) ed h))
 
 pub values_from : (c : OrderedCircuit) (plan : Solved) → IsShaped c.nodes (length c.order) → IsPlan c.nodes (length c.order) plan → (k : ℕ) → k < length c.nodes
     → (op : Op) (a b : ℕ) → node_at c.nodes k ≡ node_of op a b → (point : List ℕ) → AreElements point → (s : Point) → AgreesAt c.nodes k (point_of point) s

@@ -1,6 +1,7 @@
 // What one worker answers with.
 ghost use Rattle.std.specs.Prelude.{◌≡◌, IfOk};
 
+use crate::about::begin;
 use crate::engine::Engine;
 use crate::polys::fill;
 use crate::values::operand_values;
@@ -9,6 +10,7 @@ use blic_claims::{Answers, Points};
 use blic_eval::Scratch;
 use blic_field::Fe;
 use blic_poly2::Poly2;
+use blic_solve::Plan;
 use std::alloc::Global;
 use std::marker::Model;
 use std::sync::ledger::Ledger;
@@ -16,22 +18,27 @@ use std::sync::ledger::Ledger;
 /// One worker's place at an engine: answers about the engine's circuit, with the room that they take,
 /// so that no answer takes memory. For each claim it makes at most four products of elements for each
 /// decision of the circuit's functions and each pair of the node's operands. Contracts see the circuit.
+///
+/// It keeps the decisions that the operands of the last node led to, so that answers about one node,
+/// one after another, look for them once.
 #[derive(Drop)]
 pub struct Desk<'e> {
     engine: &'e Engine<'e>,
+    plan: &'e Plan,
+    about: Option<u32>,
     scratch: Scratch,
     point: Vec<Fe>,
 }
 
 impl<'e> Model for Desk<'e> {
     ghost use Rattle.blic_model.specs.Circuit.{OrderedCircuit};
-    ghost use Rattle.blic_engine.specs.Rooms.{HasRoom};
+    ghost use Rattle.blic_engine.specs.Rooms.{IsDesk};
 
     ghost Value = { OrderedCircuit };
 
     ghost view = { λ d. d.engine.now };
 
-    ghost invariant = { λ d. HasRoom d.engine.now d.scratch d.point.items };
+    ghost invariant = { λ d. IsDesk d.engine.now d.plan.now d.about d.scratch d.point.items };
 }
 
 impl<'e> Desk<'e> {
@@ -48,6 +55,8 @@ impl<'e> Desk<'e> {
         let point = vec![in alloc; Fe::ZERO; circuit.levels() as usize]?;
         Ok(Desk {
             engine,
+            plan,
+            about: None,
             scratch,
             point,
         })
@@ -73,8 +82,11 @@ impl<'e> Answers for Desk<'e> {
         out: &mut [Poly2],
         steps: &mut Steps<L>,
     ) {
+        let circuit = self.engine.circuit();
+        begin(circuit, self.plan, node, &mut self.about, &mut self.scratch);
         fill(
-            self.engine,
+            circuit,
+            self.plan,
             points,
             node,
             j,
@@ -86,8 +98,11 @@ impl<'e> Answers for Desk<'e> {
     }
 
     fn values<L: Ledger>(&mut self, points: &Points, node: u32, steps: &mut Steps<L>) -> (Fe, Fe) {
+        let circuit = self.engine.circuit();
+        begin(circuit, self.plan, node, &mut self.about, &mut self.scratch);
         operand_values(
-            self.engine,
+            circuit,
+            self.plan,
             points,
             node,
             &mut self.scratch,

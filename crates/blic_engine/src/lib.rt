@@ -1,6 +1,7 @@
 //! Answers about a circuit by decision diagrams, which are made once for all workers.
 #![tactic(auto)]
 
+mod about;
 mod desk;
 mod engine;
 mod join;

@@ -1,6 +1,5 @@
 // The flat point: an element for each level, of which only a node's free levels matter.
-ghost use Rattle.std.specs.Prelude.{◌≡◌, ◌<◌, ℕ, length, slice_set, true};
-ghost use Rattle.blic_model.specs.Circuit.{is_free};
+ghost use Rattle.std.specs.Prelude.{◌≡◌, ◌<◌, length, slice_set};
 ghost use Rattle.blic_model.specs.Counts.{claims};
 ghost use Rattle.blic_claims.specs.Points.{ArePointsOf, stored_point};
 ghost use Rattle.blic_eval.specs.Lines.{point_of};

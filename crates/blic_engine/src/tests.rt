@@ -215,6 +215,7 @@ fn same_conversation(
     requires layout { layout.now ≡ layout_of circuit.now }
     requires points { ArePointsOf points.old circuit.now }
     requires desk { desk.old ≡ circuit.now }
+    ensures { desk.new ≡ circuit.now }
 {
     let mut same = true;
     let mut node = circuit.nodes();
@@ -240,7 +241,8 @@ fn is_sent<T: Send>(_value: &T) {}
 
 fn is_shared<T: Sync>(_value: &T) {}
 
-// Whether a desk answers about the circuit by the definitions, and the root's value is 1 as expected.
+// Whether a desk answers about the circuit by the definitions, in two conversations one after the other,
+// and the root's value is 1 as expected.
 fn answers(alloc: Global, circuit: &Circuit, expected: bool) -> Result<bool, Fail> {
     let Ok(engine) = Engine::new(alloc, circuit, 100, 100, 0) else {
         return Err("not solved")?;
@@ -253,10 +255,13 @@ fn answers(alloc: Global, circuit: &Circuit, expected: bool) -> Result<bool, Fai
     };
     is_shared(&engine);
     is_sent(&desk);
-    desk.between(0);
     let layout = Layout::new(alloc, circuit).map_err(|_| "memory")?;
     let mut points = Points::new(alloc, circuit, &layout).map_err(|_| "memory")?;
-    same_conversation(alloc, circuit, &layout, &mut points, &mut desk)
+    let first = same_conversation(alloc, circuit, &layout, &mut points, &mut desk)?;
+    desk.between(0);
+    let mut points = Points::new(alloc, circuit, &layout).map_err(|_| "memory")?;
+    let second = same_conversation(alloc, circuit, &layout, &mut points, &mut desk)?;
+    Ok(first && second)
 }
 
 #[test]

@@ -1,14 +1,14 @@
 -- The polynomials of refs that are joined.
-use Rattle.std.proofs.Common.{arith, ℕ, ◌+◌, ◌≡◌, ◌≢◌, ◌<◌, ◌≤◌, refl, sym, ◌∙◌, ap, subst, ◌⊎◌, inl, inr, List, ◌++◌, length, take, drop, Bool, true, false}
-use Rattle.std.specs.Prelude.{min, set}
+use Rattle.std.proofs.Common.{arith, ℕ, ◌+◌, ◌*◌, ◌≡◌, ◌≢◌, ◌<◌, ◌≤◌, refl, sym, ◌∙◌, ap, subst, ◌⊎◌, inl, inr, List, length, Bool, true, false}
+use Rattle.std.specs.Prelude.{min, nat_le, set, cond}
 use mathlib.Core.Path.{ap₂, fun_ext}
-use Rattle.std.proofs.lemmas.Bool.{cases_eq, cases_lt}
+use Rattle.std.proofs.lemmas.Bool.{cases_eq, cases_lt, false≢true}
+use Rattle.std.proofs.lemmas.Bool.Decides.{nat_tests}
 use Rattle.std.proofs.lemmas.List.{get_or-set_same, get_or-set_other}
-use Rattle.std.proofs.Math.Seq.{take-append_seam}
 use Rattle.blic_field.specs.Field.{modulus, mul, or, blend}
 use Rattle.blic_field.specs.Quadratic.{Quadratic, at, interpolate, HasElements}
 use Rattle.blic_field.proofs.Interpolation.{at-def, interpolate-at}
-use Rattle.blic_field.proofs.Ring.{ring, mul_below, or_below, add_below}
+use Rattle.blic_field.proofs.Ring.{ring, mul_below, or_below, add_below, blend_below}
 use Rattle.blic_poly2.specs.declared.linear.Lin.{Lin}
 use Rattle.blic_poly2.specs.Poly.{lin_at}
 use Rattle.blic_poly2.proofs.Values.{lin_at-def}
@@ -26,10 +26,12 @@ use Rattle.blic_store.proofs.Cofactors.{is_cofactor}
 use Rattle.blic_apply.specs.declared.operation.Op.{Op}
 use Rattle.blic_apply.specs.declared.operation.Op.TheVariants.{And, Or}
 use Rattle.blic_eval.specs.Extension.{extension, joined, joined_poly}
-use Rattle.blic_eval.specs.Lines.{HasLevels, HasLines, line_of}
-use Rattle.blic_eval.specs.Sides.{HasPolys, HasTables, IsGraphOfRefs, IsInTables, IsJoined, IsPairPoly, leaf_of, lines_joined, poly_at, reduced_joined, side_at, widened_of}
+use Rattle.blic_eval.specs.Lines.{HasLevels, HasLines, IsLine, line_of}
+use Rattle.blic_eval.specs.Reached.{IsAmong}
+use Rattle.blic_eval.specs.Sides.{HasPolys, HasTables, IsFirstUnder, IsGraphOfReached, IsInTables, IsJoined, IsPairPoly, is_under, leaf_of, lines_joined, poly_at, poly_of_side, reduced_joined, value_at, widened_of}
 use Rattle.blic_eval.proofs.Linearized.{AllBelow, reduced, reduced_ignored, reduced_linear, IsFixed, blend_of_fixed}
 use Rattle.blic_eval.proofs.Extensions.{AllBelow-extension, Ignores-extension, IsFixed-extension, IsPartAt, linearize_extension}
+use Rattle.blic_eval.proofs.Reaching.{AreAmong, among_cofactor, pair_among}
 use Rattle.blic_eval.proofs.Refs.{IsBlind-ref, IsPartAt-cofactor, extension-false, extension-true, flat_value, lin_constant, line_of-false, line_of-true}
 
 -- the values of two refs, joined
@@ -148,10 +150,6 @@ leaf_value Or c d l V z o h = elim (leaf_or c d) [
   ]
 ]
 
-pub leaf_below : (op : Op) (c d n : ℕ) → c < n + 2 → d < n + 2 → leaf_of op c d < n + 2
-leaf_below And c d n h i = elim (leaf_and c d) [ inl e ↦ omega (arith, e.1) | inr w ↦ elim w [ inl e ↦ omega (arith, e.1) | inr e ↦ omega (arith, e.2) ] ]
-leaf_below Or c d n h i = elim (leaf_or c d) [ inl e ↦ omega (arith, e.1) | inr w ↦ elim w [ inl e ↦ omega (arith, e.1) | inr e ↦ omega (arith, e.2) ] ]
-
 -- Two refs of which one is constant.
 pub joined_leaf : (op : Op) (nodes : List Decision) (levels level c d : ℕ) → level ≤ levels → min c d < 2 → (p : Point)
     → reduced_joined op nodes levels level c d p ≡ both op nodes levels c d p
@@ -163,31 +161,129 @@ joined_leaf op nodes levels level c d l m p =
     ∙ ap (λ u. u p) (reduced_linear (both op nodes levels c d) level
     (λ x h. subst (λ u. linearize u x ≡ u) (sym leaf) (linearize_extension (function nodes (leaf_of op c d)) levels x (omega arith))))
 
--- what stays the same while the pairs are evaluated
-pub record IsRun (nodes : List Decision) (levels level : ℕ) (s : Point) (pairs : List Pair) (lines : List Lin) : Type 0 where
+-- what stays the same while the pairs are evaluated: those from the nth on are under the level
+pub record IsRun (nodes : List Decision) (levels level : ℕ) (s : Point) (pairs : List Pair) (n : ℕ) (lines : List Lin) : Type 0 where
   pub canonical : IsCanonical nodes
   pub levels_in : HasLevels nodes levels
   pub level_in : level < levels
-  pub graph : IsGraphOfRefs nodes pairs
-  pub lines_are : HasLines nodes levels level s lines (length nodes)
+  pub numbers : List ℕ
+  pub graph : IsGraphOfReached nodes pairs numbers
+  pub lines_are : HasLines nodes levels level s lines numbers (length numbers)
   pub room : length nodes ≤ length lines
+  pub under : IsFirstUnder pairs level n
 
 -- The lines of two refs, joined.
-pub lines_are_both : (op : Op) (nodes : List Decision) (levels level : ℕ) (s : Point) (lines : List Lin) → HasLines nodes levels level s lines (length nodes)
-    → (c d : ℕ) → IsRef nodes c → IsRef nodes d → (t : ℕ) → lines_joined op lines c d t ≡ both op nodes levels c d (put s level t)
-lines_are_both op nodes levels level s lines h c d hc hd t = ap₂ (joined op) ((h c hc).values t) ((h d hd).values t)
+pub lines_are_both : (op : Op) (nodes : List Decision) (levels level : ℕ) (s : Point) (lines : List Lin) (c d : ℕ)
+    → IsLine nodes levels level s c (line_of lines c) → IsLine nodes levels level s d (line_of lines d) → (t : ℕ) → lines_joined op lines c d t ≡ both op nodes levels c d (put s level t)
+lines_are_both op nodes levels level s lines c d hc hd t = ap₂ (joined op) (hc.values t) (hd.values t)
 
--- What a side has in the tables.
-side_is : (op : Op) (nodes : List Decision) (levels level : ℕ) (s : Point) (pairs : List Pair) (lines : List Lin) (polys : List Quadratic) (n : ℕ)
-    → HasLines nodes levels level s lines (length nodes) → level < levels → HasPolys op nodes levels level s pairs polys n
-    → (c d : ℕ) → IsRef nodes c → IsRef nodes d → (side : Side) → IsSide pairs side c d → ((j : ℕ) → StandsAt pairs j c d → n ≤ j)
-    → (t : ℕ) → side_at op lines polys side t ≡ reduced_joined op nodes levels level c d (put s level t)
-side_is op nodes levels level s pairs lines polys n h l done c d hc hd (Side.Pair j) e later t =
-    (done j (later j e) e.in_range).values t ∙ ap₂ (λ y z. reduced_joined op nodes levels level y z (put s level t)) e.first e.second
-side_is op nodes levels level s pairs lines polys n h l done c d hc hd (Side.Done y z) e later t =
-    ap₂ (λ u w. lines_joined op lines u w t) e.0 e.1
-    ∙ (lines_are_both op nodes levels level s lines h c d hc hd t
-    ∙ sym (joined_leaf op nodes levels level c d (omega arith) (let p = e.0 in let q = e.1 in let m = e.2 in omega arith) (put s level t)))
+at_most_holds : (n j : ℕ) → n ≤ j → nat_le n j ≡ true
+at_most_holds n j l = grind (arith, nat_tests)
+
+at_most_fails : (n j : ℕ) → j < n → nat_le n j ≡ false
+at_most_fails n j l = grind (arith, nat_tests)
+
+widened_at : (a : Lin) (t : ℕ) → at (widened_of a) t ≡ lin_at a t
+widened_at a t = simp (at-def, lin_at-def, ring) (omega arith)
+
+lin_below : (a : Lin) (t : ℕ) → lin_at a t < modulus
+lin_below a t = subst (λ z. z < modulus) (sym (lin_at-def a t)) (add_below _ _)
+
+-- The polynomial that has the same value everywhere.
+flat_at_all : (v t : ℕ) → v < modulus → at (widened_of (record { c0 = v; c1 = 0 })) t ≡ v
+flat_at_all v t l = widened_at (record { c0 = v; c1 = 0 }) t ∙ lin_constant v t l
+
+-- The line of a leaf.
+pub leaf_values : (op : Op) (lines : List Lin) (c d : ℕ) → min c d < 2 → (t : ℕ) → at (widened_of (line_of lines (leaf_of op c d))) t ≡ lines_joined op lines c d t
+leaf_values op lines c d m t =
+    widened_at (line_of lines (leaf_of op c d)) t
+    ∙ sym (leaf_value op c d m (λ r. lin_at (line_of lines r) t)
+    (ap (λ a. lin_at a t) (line_of-false lines) ∙ lin_constant 0 t (omega arith))
+    (ap (λ a. lin_at a t) (line_of-true lines) ∙ lin_constant 1 t (omega arith))
+    (λ r. lin_below (line_of lines r) t))
+
+-- a pair of a run, and what is in the tables of its refs
+record IsKnown (nodes : List Decision) (levels level : ℕ) (s : Point) (pairs : List Pair) (lines : List Lin) (j : ℕ) : Type 0 where
+  level_is : (pair_at pairs j).level ≡ level_of_pair nodes (pair_at pairs j).first (pair_at pairs j).second
+  first_held : IsRef nodes (pair_at pairs j).first
+  second_held : IsRef nodes (pair_at pairs j).second
+  first_inner : 2 ≤ (pair_at pairs j).first
+  second_inner : 2 ≤ (pair_at pairs j).second
+  first_line : IsLine nodes levels level s (pair_at pairs j).first (line_of lines (pair_at pairs j).first)
+  second_line : IsLine nodes levels level s (pair_at pairs j).second (line_of lines (pair_at pairs j).second)
+
+known : (nodes : List Decision) (levels level : ℕ) (s : Point) (pairs : List Pair) (n : ℕ) (lines : List Lin) (j : ℕ) → IsRun nodes levels level s pairs n lines → j < length pairs
+    → IsKnown nodes levels level s pairs lines j
+known nodes levels level s pairs n lines j run h =
+    let l = run.graph.graph.listed j h in
+    let w = pair_among nodes run.canonical run.graph.first run.graph.second run.numbers run.graph.reached (pair_at pairs j).first (pair_at pairs j).second l.of in
+    record {
+      level_is = l.level;
+      first_held = l.of.first_inner.held;
+      second_held = l.of.second_inner.held;
+      first_inner = l.of.first_inner.inner;
+      second_inner = l.of.second_inner.inner;
+      first_line = run.lines_are (pair_at pairs j).first w.first;
+      second_line = run.lines_are (pair_at pairs j).second w.second;
+    }
+
+-- A pair under the level has the same value everywhere.
+value_is_joined : (op : Op) (nodes : List Decision) (levels level : ℕ) (s : Point) (pairs : List Pair) (n : ℕ) (lines : List Lin) (j : ℕ)
+    → IsRun nodes levels level s pairs n lines → n ≤ j → j < length pairs → (t : ℕ)
+    → value_at op pairs lines j ≡ reduced_joined op nodes levels level (pair_at pairs j).first (pair_at pairs j).second (put s level t)
+value_is_joined op nodes levels level s pairs n lines j run l h t =
+    let can = run.canonical in
+    let k = known nodes levels level s pairs n lines j run h in
+    let c = (pair_at pairs j).first in
+    let d = (pair_at pairs j).second in
+    let e = k.level_is in
+    let m = run.under.under j l h in
+    let lc : level < level_of nodes c = omega arith in
+    let ld : level < level_of nodes d = omega arith in
+    ap₂ (joined op) (flat_value nodes can levels level s c (line_of lines c) k.first_held lc k.first_line) (flat_value nodes can levels level s d (line_of lines d) k.second_held ld k.second_line)
+    ∙ (sym (Ignores-both op nodes can levels c d k.first_held k.second_held level lc ld s t)
+    ∙ sym (joined_from op nodes can levels level c d k.first_held k.second_held (omega arith) (omega arith) (put s level t)))
+
+poly_of_under : (op : Op) (pairs : List Pair) (n : ℕ) (lines : List Lin) (polys : List Quadratic) (j : ℕ) → n ≤ j
+    → poly_of_side op pairs n lines polys (Side.Pair j) ≡ widened_of (record { c0 = value_at op pairs lines j; c1 = 0 })
+poly_of_under op pairs n lines polys j l = ap (λ b. cond b (widened_of (record { c0 = value_at op pairs lines j; c1 = 0 })) (poly_at polys j)) (at_most_holds n j l)
+
+poly_of_before : (op : Op) (pairs : List Pair) (n : ℕ) (lines : List Lin) (polys : List Quadratic) (j : ℕ) → j < n → poly_of_side op pairs n lines polys (Side.Pair j) ≡ poly_at polys j
+poly_of_before op pairs n lines polys j l = ap (λ b. cond b (widened_of (record { c0 = value_at op pairs lines j; c1 = 0 })) (poly_at polys j)) (at_most_fails n j l)
+
+-- The polynomial of a side is that of the two refs joined.
+pub side_is : (op : Op) (nodes : List Decision) (levels level : ℕ) (s : Point) (pairs : List Pair) (n : ℕ) (lines : List Lin) (polys : List Quadratic) (k : ℕ)
+    → IsRun nodes levels level s pairs n lines → HasPolys op nodes levels level s pairs n polys k
+    → (c d : ℕ) → IsLine nodes levels level s c (line_of lines c) → IsLine nodes levels level s d (line_of lines d) → IsLine nodes levels level s (leaf_of op c d) (line_of lines (leaf_of op c d))
+    → (side : Side) → IsSide pairs side c d → ((j : ℕ) → StandsAt pairs j c d → k ≤ j) → IsJoined op nodes levels level s c d (poly_of_side op pairs n lines polys side)
+side_is op nodes levels level s pairs n lines polys k run done c d hc hd leaf (Side.Pair j) e later = elim (cases_lt j n) [
+  | inl f ↦ subst (IsJoined op nodes levels level s c d) (sym (poly_of_before op pairs n lines polys j f))
+      (subst (λ z. IsJoined op nodes levels level s z d (poly_at polys j)) e.first
+      (subst (λ z. IsJoined op nodes levels level s (pair_at pairs j).first z (poly_at polys j)) e.second (done j (later j e) f)))
+  | inr f ↦ subst (IsJoined op nodes levels level s c d) (sym (poly_of_under op pairs n lines polys j f)) (record {
+    elements = (joined_below op _ _, omega arith, omega arith);
+    values = λ t.
+        flat_at_all (value_at op pairs lines j) t (joined_below op _ _)
+        ∙ (value_is_joined op nodes levels level s pairs n lines j run f e.in_range t
+        ∙ ap₂ (λ y z. reduced_joined op nodes levels level y z (put s level t)) e.first e.second);
+  })
+]
+side_is op nodes levels level s pairs n lines polys k run done c d hc hd leaf (Side.Done y z) e later =
+    let m = e.2 in
+    let p = e.0 in
+    let q = e.1 in
+    let w = run.level_in in
+    let same : leaf_of op y z ≡ leaf_of op c d = ap₂ (leaf_of op) e.0 e.1 in
+    let l : IsLine nodes levels level s (leaf_of op y z) (line_of lines (leaf_of op y z)) =
+    subst (λ r. IsLine nodes levels level s r (line_of lines r)) (sym same) leaf in
+    record {
+      elements = (l.elements.0, l.elements.1, omega arith);
+      values = λ t.
+          leaf_values op lines y z e.2 t
+          ∙ (ap₂ (λ u v. lines_joined op lines u v t) e.0 e.1
+          ∙ (lines_are_both op nodes levels level s lines c d hc hd t
+          ∙ sym (joined_leaf op nodes levels level c d (omega arith) (omega arith) (put s level t))));
+    }
 
 -- A pair that a side of pair k names comes later.
 later : (nodes : List Decision) → IsCanonical nodes → (a b : ℕ) (pairs : List Pair) → IsGraph nodes a b pairs → (k : ℕ) → k < length pairs → (v : Bool) (j : ℕ)
@@ -207,15 +303,24 @@ later nodes c a b pairs graph k h v j w =
       ]
     ]
 
--- What a pair names is in the tables.
-side_in : (nodes : List Decision) (pairs : List Pair) (lines : List Lin) (polys : List Quadratic) → length nodes ≤ length lines → length pairs ≤ length polys
-    → (c d : ℕ) → IsRef nodes c → IsRef nodes d → (side : Side) → IsSide pairs side c d → IsInTables lines polys side
-side_in nodes pairs lines polys hl hp c d hc hd (Side.Pair j) e = let r = e.in_range in omega arith
-side_in nodes pairs lines polys hl hp c d hc hd (Side.Done y z) e = let p = e.0 in let q = e.1 in (omega arith, omega arith, e.2)
+-- What a side names is in the tables.
+pub side_in : (nodes : List Decision) (levels level : ℕ) (s : Point) (pairs : List Pair) (n : ℕ) (lines : List Lin) → IsRun nodes levels level s pairs n lines
+    → (c d : ℕ) → IsRef nodes c → IsRef nodes d → (side : Side) → IsSide pairs side c d → IsInTables pairs lines side
+side_in nodes levels level s pairs n lines run c d hc hd (Side.Pair j) e =
+    let r = run.room in
+    let p = e.first in
+    let q = e.second in
+    (e.in_range, omega arith, omega arith)
+side_in nodes levels level s pairs n lines run c d hc hd (Side.Done y z) e =
+    let r = run.room in
+    let p = e.0 in
+    let q = e.1 in
+    (omega arith, omega arith, e.2)
 
-pub pair_in : (nodes : List Decision) (levels level : ℕ) (s : Point) (pairs : List Pair) (lines : List Lin) (polys : List Quadratic) (k : ℕ)
-    → IsRun nodes levels level s pairs lines → length pairs ≤ length polys → k < length pairs → HasTables lines polys (pair_at pairs k)
-pair_in nodes levels level s pairs lines polys k run room h =
+-- And what a pair names.
+pub pair_in : (nodes : List Decision) (levels level : ℕ) (s : Point) (pairs : List Pair) (n : ℕ) (lines : List Lin) (k : ℕ)
+    → IsRun nodes levels level s pairs n lines → k < length pairs → HasTables pairs lines (pair_at pairs k)
+pair_in nodes levels level s pairs n lines k run h =
     let x = pair_at pairs k in
     let l = run.graph.graph.listed k h in
     let e = l.level in
@@ -230,18 +335,38 @@ pair_in nodes levels level s pairs lines polys k run room h =
     record {
       first = omega arith;
       second = omega arith;
-      low = side_in nodes pairs lines polys run.room room _ _ (held false).0 (held false).1 x.low l.low;
-      high = side_in nodes pairs lines polys run.room room _ _ (held true).0 (held true).1 x.high l.high;
+      low = side_in nodes levels level s pairs n lines run _ _ (held false).0 (held false).1 x.low l.low;
+      high = side_in nodes levels level s pairs n lines run _ _ (held true).0 (held true).1 x.high l.high;
     }
 
+-- The leaf of two refs is one of the two or a constant.
+among_leaf : (op : Op) (numbers : List ℕ) (c d : ℕ) → IsAmong numbers (length numbers) c → IsAmong numbers (length numbers) d → IsAmong numbers (length numbers) (leaf_of op c d)
+among_leaf And numbers c d hc hd = elim (leaf_and c d) [
+  | inl e ↦ subst (IsAmong numbers (length numbers)) (sym e.1) hd
+  | inr w ↦ elim w [
+    | inl e ↦ subst (IsAmong numbers (length numbers)) (sym e.1) hc
+    | inr e ↦ (let q = e.2 in inl (omega arith))
+  ]
+]
+among_leaf Or numbers c d hc hd = elim (leaf_or c d) [
+  | inl e ↦ subst (IsAmong numbers (length numbers)) (sym e.1) hd
+  | inr w ↦ elim w [
+    | inl e ↦ subst (IsAmong numbers (length numbers)) (sym e.1) hc
+    | inr e ↦ (let q = e.2 in inl (omega arith))
+  ]
+]
+
 -- A pair's polynomial from the tables is that of its refs joined.
-pub pair_is : (op : Op) (nodes : List Decision) (levels level : ℕ) (s : Point) (pairs : List Pair) (lines : List Lin) (polys : List Quadratic) (k : ℕ) (q : Quadratic)
-    → IsRun nodes levels level s pairs lines → HasPolys op nodes levels level s pairs polys (k + 1) → k < length pairs
-    → IsPairPoly op level s lines polys (pair_at pairs k) q → IsJoined op nodes levels level s (pair_at pairs k).first (pair_at pairs k).second q
-pair_is op nodes levels level s pairs lines polys k q run done h w = record { elements = w.elements; values = values }
+pub pair_is : (op : Op) (nodes : List Decision) (levels level : ℕ) (s : Point) (pairs : List Pair) (n : ℕ) (lines : List Lin) (polys : List Quadratic) (k : ℕ) (q : Quadratic)
+    → IsRun nodes levels level s pairs n lines → HasPolys op nodes levels level s pairs n polys (k + 1) → k < n
+    → IsPairPoly op level s pairs n lines polys (pair_at pairs k) q → IsJoined op nodes levels level s (pair_at pairs k).first (pair_at pairs k).second q
+pair_is op nodes levels level s pairs n lines polys k q run done before w = record { elements = w.elements; values = values }
   where
     can : IsCanonical nodes
     can = run.canonical
+
+    h : k < length pairs
+    h = let u = run.under.within in omega arith
 
     x : Pair
     x = pair_at pairs k
@@ -255,13 +380,23 @@ pair_is op nodes levels level s pairs lines polys k q run done h w = record { el
     ls : (pair_at pairs k).level ≤ level_of nodes (pair_at pairs k).second
     ls = let e = l.level in omega arith
 
+    among : AreAmong run.numbers (pair_at pairs k).first (pair_at pairs k).second
+    among = pair_among nodes can run.graph.first run.graph.second run.numbers run.graph.reached (pair_at pairs k).first (pair_at pairs k).second l.of
+
+    among_first : (v : Bool) → IsAmong run.numbers (length run.numbers) (cofactor nodes x.first x.level v)
+    among_first v = among_cofactor nodes run.graph.first run.graph.second run.numbers run.graph.reached x.first x.level v among.first_inner among.first
+
+    among_second : (v : Bool) → IsAmong run.numbers (length run.numbers) (cofactor nodes x.second x.level v)
+    among_second v = among_cofactor nodes run.graph.first run.graph.second run.numbers run.graph.reached x.second x.level v among.second_inner among.second
+
     side : (v : Bool) (side : Side) → IsSide pairs side (cofactor nodes x.first x.level v) (cofactor nodes x.second x.level v) → (t : ℕ)
-        → side_at op lines polys side t ≡ reduced_joined op nodes levels level (cofactor nodes x.first x.level v) (cofactor nodes x.second x.level v) (put s level t)
+        → at (poly_of_side op pairs n lines polys side) t ≡ reduced_joined op nodes levels level (cofactor nodes x.first x.level v) (cofactor nodes x.second x.level v) (put s level t)
     side v sd e t =
-        side_is op nodes levels level s pairs lines polys (k + 1) run.lines_are run.level_in done (cofactor nodes x.first x.level v) (cofactor nodes x.second x.level v)
-        (is_cofactor nodes can x.first x.level v l.of.first_inner.held l.of.first_inner.inner lf).held
-        (is_cofactor nodes can x.second x.level v l.of.second_inner.held l.of.second_inner.inner ls).held
-        sd e (later nodes can run.graph.first run.graph.second pairs run.graph.graph k h v) t
+        (side_is op nodes levels level s pairs n lines polys (k + 1) run done (cofactor nodes x.first x.level v) (cofactor nodes x.second x.level v)
+        (run.lines_are (cofactor nodes x.first x.level v) (among_first v)) (run.lines_are (cofactor nodes x.second x.level v) (among_second v))
+        (run.lines_are (leaf_of op (cofactor nodes x.first x.level v) (cofactor nodes x.second x.level v))
+        (among_leaf op run.numbers (cofactor nodes x.first x.level v) (cofactor nodes x.second x.level v) (among_first v) (among_second v)))
+        sd e (later nodes can run.graph.first run.graph.second pairs run.graph.graph k h v)).values t
 
     above : x.level < level → (t : ℕ) → at q t ≡ reduced_joined op nodes levels level x.first x.second (put s level t)
     above m t =
@@ -272,42 +407,26 @@ pair_is op nodes levels level s pairs lines polys k q run done h w = record { el
     here : x.level ≡ level → (t : ℕ) → at q t ≡ reduced_joined op nodes levels level x.first x.second (put s level t)
     here m t =
         w.here m t
-        ∙ (lines_are_both op nodes levels level s lines run.lines_are x.first x.second l.of.first_inner.held l.of.second_inner.held t
+        ∙ (lines_are_both op nodes levels level s lines x.first x.second (run.lines_are x.first among.first) (run.lines_are x.second among.second) t
         ∙ sym (joined_from op nodes can levels level x.first x.second l.of.first_inner.held l.of.second_inner.held
         (let a = lf in omega arith) (let a = ls in omega arith) (put s level t)))
-
-    under : level < x.level → (t : ℕ) → at q t ≡ reduced_joined op nodes levels level x.first x.second (put s level t)
-    under m t =
-        let a = lf in
-        let b = ls in
-        w.under m t
-        ∙ (ap₂ (joined op)
-        (flat_value nodes can levels level s x.first (line_of lines x.first) l.of.first_inner.held (omega arith) (run.lines_are x.first l.of.first_inner.held))
-        (flat_value nodes can levels level s x.second (line_of lines x.second) l.of.second_inner.held (omega arith) (run.lines_are x.second l.of.second_inner.held))
-        ∙ (sym (Ignores-both op nodes can levels x.first x.second l.of.first_inner.held l.of.second_inner.held level (omega arith) (omega arith) s t)
-        ∙ sym (joined_from op nodes can levels level x.first x.second l.of.first_inner.held l.of.second_inner.held (omega arith) (omega arith) (put s level t))))
 
     values : (t : ℕ) → at q t ≡ reduced_joined op nodes levels level x.first x.second (put s level t)
     values t = elim (cases_lt x.level level) [
       | inl m ↦ above m t
-      | inr m ↦ elim (cases_lt level x.level) [ inl n ↦ under n t | inr n ↦ here (omega arith) t ]
+      | inr m ↦ here (let u = run.under.before k before in omega arith) t
     ]
 
--- No pair is done at first.
-pub polys_none : (op : Op) (nodes : List Decision) (levels level : ℕ) (s : Point) (pairs : List Pair) (polys : List Quadratic) (n : ℕ) → length pairs ≤ n
-    → HasPolys op nodes levels level s pairs polys n
-polys_none op nodes levels level s pairs polys n h k l m = absurd (omega arith)
-
 -- One pair more.
-pub polys_more : (op : Op) (nodes : List Decision) (levels level : ℕ) (s : Point) (pairs : List Pair) (polys : List Quadratic) (k : ℕ) (q : Quadratic) → k < length polys
-    → HasPolys op nodes levels level s pairs polys (k + 1) → IsJoined op nodes levels level s (pair_at pairs k).first (pair_at pairs k).second q
-    → HasPolys op nodes levels level s pairs (set polys k q) k
-polys_more op nodes levels level s pairs polys k q h done w j l m = elim (cases_eq j k) [
+pub polys_more : (op : Op) (nodes : List Decision) (levels level : ℕ) (s : Point) (pairs : List Pair) (n : ℕ) (polys : List Quadratic) (k : ℕ) (q : Quadratic) → k < length polys
+    → HasPolys op nodes levels level s pairs n polys (k + 1) → IsJoined op nodes levels level s (pair_at pairs k).first (pair_at pairs k).second q
+    → HasPolys op nodes levels level s pairs n (set polys k q) k
+polys_more op nodes levels level s pairs n polys k q h done w j l m = elim (cases_eq j k) [
   | inl e ↦ subst (λ z. IsJoined op nodes levels level s (pair_at pairs z).first (pair_at pairs z).second (poly_at (set polys k q) z)) (sym e)
       (subst (IsJoined op nodes levels level s (pair_at pairs k).first (pair_at pairs k).second) (sym (get_or-set_same polys k q _ h)) w)
-  | inr n ↦
-      let ne : j ≢ k = n in
-      subst (IsJoined op nodes levels level s (pair_at pairs j).first (pair_at pairs j).second) (sym (get_or-set_other polys k j q _ n)) (done j (omega arith) m)
+  | inr ne ↦
+      let other : j ≢ k = ne in
+      subst (IsJoined op nodes levels level s (pair_at pairs j).first (pair_at pairs j).second) (sym (get_or-set_other polys k j q _ ne)) (done j (omega arith) m)
 ]
 
 joined_poly-def : (op : Op) (nodes : List Decision) (levels level a b : ℕ) (s : Point)
@@ -316,61 +435,74 @@ unfolding joined_poly reduced_joined
 joined_poly-def op nodes levels level a b s = refl
 
 -- The polynomial of two refs joined is the one that the definition gives.
-pub joined_is : (op : Op) (nodes : List Decision) (levels level : ℕ) (s : Point) (a b : ℕ) (q : Quadratic) → IsJoined op nodes levels level s a b q
+joined_is : (op : Op) (nodes : List Decision) (levels level : ℕ) (s : Point) (a b : ℕ) (q : Quadratic) → IsJoined op nodes levels level s a b q
     → q ≡ joined_poly op (function nodes a) (function nodes b) levels level s
 joined_is op nodes levels level s a b q w =
     sym (joined_poly-def op nodes levels level a b s ∙ (ap interpolate (fun_ext (λ t. sym (w.values t))) ∙ interpolate-at q w.elements))
 
-widened_at : (a : Lin) (t : ℕ) → at (widened_of a) t ≡ lin_at a t
-widened_at a t = simp (at-def, lin_at-def, ring) (omega arith)
+-- Sides that are both under the level are blended as values.
+flat_side : (op : Op) (pairs : List Pair) (n : ℕ) (lines : List Lin) (polys : List Quadratic) (side : Side) → is_under n side ≡ true → (t : ℕ)
+    → (poly_of_side op pairs n lines polys side).c0 ≡ at (poly_of_side op pairs n lines polys side) t
+flat_side op pairs n lines polys (Side.Pair j) e t =
+    let p : poly_of_side op pairs n lines polys (Side.Pair j) ≡ widened_of (record { c0 = value_at op pairs lines j; c1 = 0 }) =
+    ap (λ b. cond b (widened_of (record { c0 = value_at op pairs lines j; c1 = 0 })) (poly_at polys j)) e in
+    ap (λ z. z.c0) p ∙ sym (ap (λ z. at z t) p ∙ flat_at_all (value_at op pairs lines j) t (joined_below op _ _))
+flat_side op pairs n lines polys (Side.Done c d) e t = absurd (false≢true e)
 
-lin_below : (a : Lin) (t : ℕ) → lin_at a t < modulus
-lin_below a t = subst (λ z. z < modulus) (sym (lin_at-def a t)) (add_below _ _)
-
--- The line of a leaf.
-pub leaf_values : (op : Op) (lines : List Lin) (c d : ℕ) → min c d < 2 → (t : ℕ) → at (widened_of (line_of lines (leaf_of op c d))) t ≡ lines_joined op lines c d t
-leaf_values op lines c d m t =
-    widened_at (line_of lines (leaf_of op c d)) t
-    ∙ sym (leaf_value op c d m (λ r. lin_at (line_of lines r) t)
-    (ap (λ a. lin_at a t) (line_of-false lines) ∙ lin_constant 0 t (omega arith))
-    (ap (λ a. lin_at a t) (line_of-true lines) ∙ lin_constant 1 t (omega arith))
-    (λ r. lin_below (line_of lines r) t))
-
-pub leaf_joined : (op : Op) (nodes : List Decision) (levels level : ℕ) (s : Point) (lines : List Lin) → HasLines nodes levels level s lines (length nodes) → level < levels
-    → (c d : ℕ) → IsRef nodes c → IsRef nodes d → min c d < 2 → IsJoined op nodes levels level s c d (widened_of (line_of lines (leaf_of op c d)))
-leaf_joined op nodes levels level s lines h l c d hc hd m =
-    let e = (h (leaf_of op c d) (leaf_below op c d (length nodes) hc hd)).elements in
+pub pair_flat : (op : Op) (level : ℕ) (s : Point) (pairs : List Pair) (n : ℕ) (lines : List Lin) (polys : List Quadratic) (x : Pair) (low high q : Quadratic) (v : ℕ) → x.level ≢ level
+    → is_under n x.low ≡ true → is_under n x.high ≡ true → low ≡ poly_of_side op pairs n lines polys x.low → high ≡ poly_of_side op pairs n lines polys x.high
+    → v ≡ blend (s x.level) low.c0 high.c0 → q ≡ widened_of (record { c0 = v; c1 = 0 }) → IsPairPoly op level s pairs n lines polys x q
+pair_flat op level s pairs n lines polys x low high q v ne ul uh el eh ev eq =
+    let b : v < modulus = subst (λ z. z < modulus) (sym ev) (blend_below _ _ _) in
     record {
-      elements = (e.0, e.1, omega arith);
-      values = λ t.
-          leaf_values op lines c d m t
-          ∙ (lines_are_both op nodes levels level s lines h c d hc hd t ∙ sym (joined_leaf op nodes levels level c d (omega arith) m (put s level t)));
+      elements = subst HasElements (sym eq) (b, omega arith, omega arith);
+      above = λ m t.
+          ap (λ z. at z t) eq
+          ∙ (flat_at_all v t b
+          ∙ (ev ∙ ap₂ (blend (s x.level)) (ap (λ z. z.c0) el ∙ flat_side op pairs n lines polys x.low ul t) (ap (λ z. z.c0) eh ∙ flat_side op pairs n lines polys x.high uh t)));
+      here = λ m. absurd (ne m);
     }
 
--- The polynomial of a pair whose level is below.
-pub pair_under : (op : Op) (level : ℕ) (s : Point) (lines : List Lin) (polys : List Quadratic) (x : Pair) (v : ℕ) (q : Quadratic) → level < x.level
-    → v ≡ joined op (line_of lines x.first).c0 (line_of lines x.second).c0 → q ≡ widened_of (record { c0 = v; c1 = 0 }) → IsPairPoly op level s lines polys x q
-pair_under op level s lines polys x v q l e d =
-    let b : v < modulus = subst (λ z. z < modulus) (sym e) (joined_below op _ _) in
-    record {
-      elements = subst HasElements (sym d) (b, omega arith, omega arith);
-      above = λ m. absurd (omega arith);
-      here = λ m. absurd (omega arith);
-      under = λ m t. ap (λ z. at z t) d ∙ (widened_at (record { c0 = v; c1 = 0 }) t ∙ (lin_constant v t b ∙ e));
-    }
+one_product : (p : Bool) → cond p 1 0 ≤ 1
+one_product true = omega arith
+one_product false = omega arith
 
 -- Where there is no pair, one of the two refs is constant.
 pub no_pairs : (nodes : List Decision) (a b : ℕ) (pairs : List Pair) → IsGraph nodes a b pairs → length pairs ≡ 0 → min a b < 2
 no_pairs nodes a b pairs graph e = elim (cases_lt (min a b) 2) [ inl l ↦ l | inr l ↦ absurd (let w = graph.some (omega arith) (omega arith) in omega arith) ]
 
--- The first pair is that of the two refs.
-pub root_joined : (op : Op) (nodes : List Decision) (levels level : ℕ) (s : Point) (a b : ℕ) (pairs : List Pair) (polys : List Quadratic) → IsGraph nodes a b pairs → 0 < length pairs
-    → HasPolys op nodes levels level s pairs polys 0 → IsJoined op nodes levels level s a b (poly_at polys 0)
-root_joined op nodes levels level s a b pairs polys graph l done =
-    let r = graph.root l in
-    subst (λ z. IsJoined op nodes levels level s z b (poly_at polys 0)) r.first
-    (subst (λ z. IsJoined op nodes levels level s (pair_at pairs 0).first z (poly_at polys 0)) r.second (done 0 (omega arith) l))
+-- The two refs as a side.
+pub root_is_side : (nodes : List Decision) (a b : ℕ) (pairs : List Pair) (side : Side) → IsGraph nodes a b pairs → (0 < length pairs → side ≡ Side.Pair 0) → (length pairs ≡ 0 → side ≡ Side.Done a b)
+    → IsSide pairs side a b
+root_is_side nodes a b pairs side graph pair done = elim (cases_lt 0 (length pairs)) [
+  | inl l ↦ subst (λ z. IsSide pairs z a b) (sym (pair l)) (graph.root l)
+  | inr l ↦ (let none : length pairs ≡ 0 = omega arith in subst (λ z. IsSide pairs z a b) (sym (done none)) (refl, refl, no_pairs nodes a b pairs graph none))
+]
 
--- What is written over a list of its length takes its place.
-pub refilled : {X : Type 0} (n : ℕ) (xs zs : List X) → length xs ≡ n → take n (xs ++ drop (length xs) zs) ≡ xs
-refilled n xs zs e = ap (λ m. take m (xs ++ drop (length xs) zs)) (sym e) ∙ take-append_seam xs (drop (length xs) zs)
+-- It takes a product only where there are pairs, all of which are under the level.
+pub root_products : (n : ℕ) (a b : ℕ) (pairs : List Pair) (side : Side) → n ≤ length pairs → (0 < length pairs → side ≡ Side.Pair 0) → (length pairs ≡ 0 → side ≡ Side.Done a b)
+    → 4 * n + cond (is_under n side) 1 0 ≤ 4 * length pairs
+root_products n a b pairs side l pair done = elim (cases_lt 0 (length pairs)) [
+  | inl some ↦ elim (cases_lt 0 n) [
+    | inl m ↦ few n (length pairs) (cond (is_under n side) 1 0) l (ap (λ z. cond (is_under n z) 1 0) (pair some) ∙ ap (λ (c : Bool). cond c 1 0) (at_most_fails n 0 m))
+    | inr m ↦ one n (length pairs) (cond (is_under n side) 1 0) m some (one_product (is_under n side))
+  ]
+  | inr none ↦ few n (length pairs) (cond (is_under n side) 1 0) l (ap (λ z. cond (is_under n z) 1 0) (done (omega arith)))
+]
+  where
+    few : (n p t : ℕ) → n ≤ p → t ≡ 0 → 4 * n + t ≤ 4 * p
+    few n p t l e = omega arith
+
+    one : (n p t : ℕ) → n ≤ 0 → 0 < p → t ≤ 1 → 4 * n + t ≤ 4 * p
+    one n p t l m e = omega arith
+
+-- The polynomial of the two refs.
+pub root_is : (op : Op) (nodes : List Decision) (levels level : ℕ) (s : Point) (a b : ℕ) (pairs : List Pair) (n : ℕ) (lines : List Lin) (polys : List Quadratic) (side : Side) (q : Quadratic)
+    → (run : IsRun nodes levels level s pairs n lines) → HasPolys op nodes levels level s pairs n polys 0
+    → IsAmong run.numbers (length run.numbers) a → IsAmong run.numbers (length run.numbers) b → IsSide pairs side a b → q ≡ poly_of_side op pairs n lines polys side
+    → q ≡ joined_poly op (function nodes a) (function nodes b) levels level s
+root_is op nodes levels level s a b pairs n lines polys side q run done ha hb e is =
+    is
+    ∙ joined_is op nodes levels level s a b (poly_of_side op pairs n lines polys side)
+    (side_is op nodes levels level s pairs n lines polys 0 run done a b (run.lines_are a ha) (run.lines_are b hb) (run.lines_are (leaf_of op a b) (among_leaf op run.numbers a b ha hb))
+    side e (λ j w. omega arith))

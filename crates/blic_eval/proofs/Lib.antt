@@ -3,4 +3,7 @@ pub mod Extensions
 pub mod FreeBelow
 pub mod Joining
 pub mod Linearized
+pub mod Numbering
+pub mod Reaching
 pub mod Refs
+pub mod Walking

@@ -1,5 +1,5 @@
 -- The extensions of refs, and their lines.
-use Rattle.std.proofs.Common.{arith, ℕ, zero, suc, ◌+◌, ◌-◌, ◌≡◌, ◌≢◌, ◌<◌, ◌≤◌, refl, sym, ◌∙◌, ap, subst, inl, inr, List, length, get_or, Bool, true, false}
+use Rattle.std.proofs.Common.{arith, ℕ, zero, suc, ◌+◌, ◌-◌, ◌≡◌, ◌≢◌, ◌<◌, ◌≤◌, refl, sym, ◌∙◌, ap, subst, ◌⊎◌, inl, inr, List, length, get_or, Bool, true, false}
 use Rattle.std.specs.Prelude.{set}
 use mathlib.Core.Path.{ap₂, fun_ext}
 use Rattle.std.proofs.lemmas.Bool.{cases_eq}
@@ -19,7 +19,8 @@ use Rattle.blic_store.proofs.Cofactors.{cofactor-here, is_cofactor}
 use Rattle.blic_store.proofs.Functions.{function-false, function-true}
 use Rattle.blic_store.proofs.Levels.{level_of-node}
 use Rattle.blic_eval.specs.Extension.{extension}
-use Rattle.blic_eval.specs.Lines.{HasLevels, HasLines, HasValues, IsLine, line_of}
+use Rattle.blic_eval.specs.Lines.{HasLevels, HasLines, HasValues, IsLine, IsValue, line_of}
+use Rattle.blic_eval.specs.Reached.{IsAmong, IsReached, IsReachedBySome}
 use Rattle.blic_eval.proofs.Extensions.{IsBlind, IsPartAt, Ignores-extension, extension_blend, extension_constant}
 
 with_bit_is : (p : ℕ → Bool) (x : ℕ) (b : Bool) → with_bit p x b ≡ put p x b
@@ -77,11 +78,11 @@ pub line_of-inner : (lines : List Lin) (r : ℕ) → 2 ≤ r → line_of lines r
 line_of-inner lines r h = let e : r ≡ suc (suc (r - 2)) = omega arith in ap (line_of lines) e ∙ line_of-decision lines (r - 2)
 
 -- Another entry is written.
-pub line_of-set_other : (lines : List Lin) (k r : ℕ) (a : Lin) → r < k + 2 → line_of (set lines k a) r ≡ line_of lines r
-line_of-set_other lines k zero a l = line_of-false (set lines k a) ∙ sym (line_of-false lines)
-line_of-set_other lines k (suc zero) a l = line_of-true (set lines k a) ∙ sym (line_of-true lines)
-line_of-set_other lines k (suc (suc j)) a l =
-    line_of-decision (set lines k a) j ∙ (get_or-set_other lines k j a (record { c0 = 0; c1 = 0 }) (λ e. absurd (omega arith)) ∙ sym (line_of-decision lines j))
+pub line_of-set_other : (lines : List Lin) (k r : ℕ) (a : Lin) → r ≢ k + 2 → line_of (set lines k a) r ≡ line_of lines r
+line_of-set_other lines k zero a n = line_of-false (set lines k a) ∙ sym (line_of-false lines)
+line_of-set_other lines k (suc zero) a n = line_of-true (set lines k a) ∙ sym (line_of-true lines)
+line_of-set_other lines k (suc (suc j)) a n =
+    line_of-decision (set lines k a) j ∙ (get_or-set_other lines k j a (record { c0 = 0; c1 = 0 }) (λ e. n (omega arith)) ∙ sym (line_of-decision lines j))
 
 pub line_of-set_same : (lines : List Lin) (k r : ℕ) (a : Lin) → k < length lines → r ≡ k + 2 → line_of (set lines k a) r ≡ a
 line_of-set_same lines k r a l e =
@@ -91,39 +92,95 @@ line_of-set_same lines k r a l e =
 pub lin_constant : (c t : ℕ) → c < modulus → lin_at (record { c0 = c; c1 = 0 }) t ≡ c
 lin_constant c t l = simp (lin_at-def, ring) (omega arith)
 
--- The table at the start has the constants.
-pub HasLines-none : (nodes : List Decision) (levels level : ℕ) (s : Point) (lines : List Lin) → HasLines nodes levels level s lines 0
-HasLines-none nodes levels level s lines zero l =
+-- The table has the constants whatever it is.
+constant_line : (nodes : List Decision) (levels level : ℕ) (s : Point) (lines : List Lin) (r : ℕ) → r < 2 → IsLine nodes levels level s r (line_of lines r)
+constant_line nodes levels level s lines zero l =
     subst (IsLine nodes levels level s 0) (sym (line_of-false lines))
     (record { elements = (omega arith, omega arith); values = λ t. lin_constant 0 t (omega arith) ∙ sym (extension-false nodes levels (put s level t)) })
-HasLines-none nodes levels level s lines (suc zero) l =
+constant_line nodes levels level s lines (suc zero) l =
     subst (IsLine nodes levels level s 1) (sym (line_of-true lines))
     (record { elements = (omega arith, omega arith); values = λ t. lin_constant 1 t (omega arith) ∙ sym (extension-true nodes levels (put s level t)) })
-HasLines-none nodes levels level s lines (suc (suc r)) l = absurd (omega arith)
+constant_line nodes levels level s lines (suc (suc r)) l = absurd (omega arith)
+
+constant_value : (nodes : List Decision) (levels : ℕ) (s : Point) (lines : List Lin) (r : ℕ) → r < 2 → IsValue nodes levels s lines r
+constant_value nodes levels s lines zero l = ap (λ z. z.c0) (line_of-false lines) ∙ sym (extension-false nodes levels s)
+constant_value nodes levels s lines (suc zero) l = ap (λ z. z.c0) (line_of-true lines) ∙ sym (extension-true nodes levels s)
+constant_value nodes levels s lines (suc (suc r)) l = absurd (omega arith)
+
+pub lines_none : (nodes : List Decision) (levels level : ℕ) (s : Point) (lines : List Lin) (numbers : List ℕ) → HasLines nodes levels level s lines numbers 0
+lines_none nodes levels level s lines numbers r h = elim h [
+  | inl c ↦ constant_line nodes levels level s lines r c
+  | inr w ↦ absurd (let l = w.1 in omega arith)
+]
+
+pub values_none : (nodes : List Decision) (levels : ℕ) (s : Point) (lines : List Lin) (numbers : List ℕ) → HasValues nodes levels s lines numbers 0
+values_none nodes levels s lines numbers r h = elim h [
+  | inl c ↦ constant_value nodes levels s lines r c
+  | inr w ↦ absurd (let l = w.1 in omega arith)
+]
+
+-- A ref among one decision more is the next one, or was among them and is another.
+among_next : (nodes : List Decision) (a b : ℕ) (numbers : List ℕ) → IsReached nodes a b numbers → (i k r : ℕ) → i < length numbers → k ≡ get_or numbers i 0 → IsAmong numbers (i + 1) r
+    → (r ≡ k + 2) ⊎ (IsAmong numbers i r × (r ≢ k + 2))
+among_next nodes a b numbers reached i k r l e h = elim h [
+  | inl c ↦ inr (inl c, (λ q. absurd (omega arith)))
+  | inr w ↦ (let m = w.1 in let q = w.2 in elim (cases_eq w.0 i) [
+    | inl same ↦ inl (w.2 ∙ ap (λ z. z + 2) (ap (λ z. get_or numbers z 0) same ∙ sym e))
+    | inr n ↦ (let ne : w.0 ≢ i = n in
+        let before : w.0 < i = omega arith in
+        inr (inr (w.0, before, w.2), (λ same. reached.once w.0 i before l (let back : get_or numbers w.0 0 ≡ k = omega arith in back ∙ e))))
+  ])
+]
 
 -- One line more.
-pub HasLines-more : (nodes : List Decision) (levels level : ℕ) (s : Point) (lines : List Lin) (k : ℕ) (a : Lin) → k < length lines → HasLines nodes levels level s lines k
-    → IsLine nodes levels level s (k + 2) a → HasLines nodes levels level s (set lines k a) (k + 1)
-HasLines-more nodes levels level s lines k a l h w r m = elim (cases_eq r (k + 2)) [
-  | inl e ↦ subst (IsLine nodes levels level s r) (sym (line_of-set_same lines k r a l e)) (subst (λ z. IsLine nodes levels level s z a) (sym e) w)
-  | inr n ↦
-      let ne : r ≢ k + 2 = n in
-      subst (IsLine nodes levels level s r) (sym (line_of-set_other lines k r a (omega arith))) (h r (omega arith))
+pub lines_more : (nodes : List Decision) (levels level : ℕ) (s : Point) (lines : List Lin) (numbers : List ℕ) (i k : ℕ) (a : Lin) → IsReachedBySome nodes numbers → i < length numbers
+    → k ≡ get_or numbers i 0 → k < length lines → HasLines nodes levels level s lines numbers i → IsLine nodes levels level s (k + 2) a → HasLines nodes levels level s (set lines k a) numbers (i + 1)
+lines_more nodes levels level s lines numbers i k a some l e m before line r h = elim (among_next nodes some.a some.b numbers some.reached i k r l e h) [
+  | inl q ↦ subst (IsLine nodes levels level s r) (sym (line_of-set_same lines k r a m q)) (subst (λ z. IsLine nodes levels level s z a) (sym q) line)
+  | inr w ↦ subst (IsLine nodes levels level s r) (sym (line_of-set_other lines k r a w.1)) (before r w.0)
 ]
 
-pub HasValues-none : (nodes : List Decision) (levels : ℕ) (s : Point) (lines : List Lin) → HasValues nodes levels s lines 0
-HasValues-none nodes levels s lines zero l = ap (λ z. z.c0) (line_of-false lines) ∙ sym (extension-false nodes levels s)
-HasValues-none nodes levels s lines (suc zero) l = ap (λ z. z.c0) (line_of-true lines) ∙ sym (extension-true nodes levels s)
-HasValues-none nodes levels s lines (suc (suc r)) l = absurd (omega arith)
-
-pub HasValues-more : (nodes : List Decision) (levels : ℕ) (s : Point) (lines : List Lin) (k v : ℕ) (a : Lin) → k < length lines → HasValues nodes levels s lines k
-    → a ≡ record { c0 = v; c1 = 0 } → v ≡ extension (function nodes (k + 2)) levels s → HasValues nodes levels s (set lines k a) (k + 1)
-HasValues-more nodes levels s lines k v a l h e w r m = elim (cases_eq r (k + 2)) [
-  | inl q ↦ ap (λ z. z.c0) (line_of-set_same lines k r a l q) ∙ (ap (λ z. z.c0) e ∙ (w ∙ ap (λ z. extension (function nodes z) levels s) (sym q)))
-  | inr n ↦
-      let ne : r ≢ k + 2 = n in
-      ap (λ z. z.c0) (line_of-set_other lines k r a (omega arith)) ∙ h r (omega arith)
+pub values_more : (nodes : List Decision) (levels : ℕ) (s : Point) (lines : List Lin) (numbers : List ℕ) (i k v : ℕ) (a : Lin) → IsReachedBySome nodes numbers → i < length numbers
+    → k ≡ get_or numbers i 0 → k < length lines → HasValues nodes levels s lines numbers i → a ≡ record { c0 = v; c1 = 0 } → v ≡ extension (function nodes (k + 2)) levels s
+    → HasValues nodes levels s (set lines k a) numbers (i + 1)
+values_more nodes levels s lines numbers i k v a some l e m before is value r h = elim (among_next nodes some.a some.b numbers some.reached i k r l e h) [
+  | inl q ↦ ap (λ z. z.c0) (line_of-set_same lines k r a m q) ∙ (ap (λ z. z.c0) is ∙ (value ∙ ap (λ z. extension (function nodes z) levels s) (sym q)))
+  | inr w ↦ ap (λ z. z.c0) (line_of-set_other lines k r a w.1) ∙ before r w.0
 ]
+
+-- what the table has of decision k's sides
+pub record HasSideLines (nodes : List Decision) (levels level : ℕ) (s : Point) (lines : List Lin) (k : ℕ) : Type 0 where
+  pub held : k < length nodes
+  pub low : IsLine nodes levels level s (low_of nodes (k + 2)) (line_of lines (low_of nodes (k + 2)))
+  pub high : IsLine nodes levels level s (high_of nodes (k + 2)) (line_of lines (high_of nodes (k + 2)))
+
+sides_among : (nodes : List Decision) (numbers : List ℕ) (i k : ℕ) → IsReachedBySome nodes numbers → i < length numbers → k ≡ get_or numbers i 0
+    → (k < length nodes) × IsAmong numbers i (low_of nodes (k + 2)) × IsAmong numbers i (high_of nodes (k + 2))
+sides_among nodes numbers i k some l e =
+    let back : get_or numbers i 0 ≡ (k + 2) - 2 = omega arith in
+    let held = some.reached.held i l in (
+      omega arith,
+      subst (λ z. IsAmong numbers i (decision_at nodes z).low) back (some.reached.low i l),
+      subst (λ z. IsAmong numbers i (decision_at nodes z).high) back (some.reached.high i l),
+    )
+
+pub side_lines : (nodes : List Decision) (levels level : ℕ) (s : Point) (lines : List Lin) (numbers : List ℕ) (i k : ℕ) → IsReachedBySome nodes numbers → i < length numbers
+    → k ≡ get_or numbers i 0 → HasLines nodes levels level s lines numbers i → HasSideLines nodes levels level s lines k
+side_lines nodes levels level s lines numbers i k some l e before =
+    let w = sides_among nodes numbers i k some l e in
+    record { held = w.0; low = before (low_of nodes (k + 2)) w.1; high = before (high_of nodes (k + 2)) w.2 }
+
+-- what the table has of decision k's sides, as values
+pub record HasSideValues (nodes : List Decision) (levels : ℕ) (s : Point) (lines : List Lin) (k : ℕ) : Type 0 where
+  pub held : k < length nodes
+  pub low : IsValue nodes levels s lines (low_of nodes (k + 2))
+  pub high : IsValue nodes levels s lines (high_of nodes (k + 2))
+
+pub side_values : (nodes : List Decision) (levels : ℕ) (s : Point) (lines : List Lin) (numbers : List ℕ) (i k : ℕ) → IsReachedBySome nodes numbers → i < length numbers
+    → k ≡ get_or numbers i 0 → HasValues nodes levels s lines numbers i → HasSideValues nodes levels s lines k
+side_values nodes levels s lines numbers i k some l e before =
+    let w = sides_among nodes numbers i k some l e in
+    record { held = w.0; low = before (low_of nodes (k + 2)) w.1; high = before (high_of nodes (k + 2)) w.2 }
 
 -- A line at a level on which the function doesn't depend has the function's value at 0.
 at_zero : (a : Lin) → a.c0 < modulus → a.c0 ≡ lin_at a 0
@@ -245,36 +302,34 @@ placed_at nodes c levels k h l =
 
 -- What is read of the table for the sides of decision k.
 pub has_sides : (nodes : List Decision) (levels level : ℕ) (s : Point) (k : ℕ) (lines : List Lin) (own r low high : ℕ) (low_line high_line : Lin)
-    → IsCanonical nodes → HasLevels nodes levels → k < length nodes → HasLines nodes levels level s lines k
+    → IsCanonical nodes → HasLevels nodes levels → HasSideLines nodes levels level s lines k
     → r ≡ k + 2 → own ≡ level_of nodes r → low ≡ low_of nodes r → high ≡ high_of nodes r → low_line ≡ line_of lines low → high_line ≡ line_of lines high
     → HasSides nodes levels level s k own low_line high_line
-has_sides nodes levels level s k lines own r low high low_line high_line c h l before re oe le he ll hl =
-    let p = placed_at nodes c levels k h l in
-    let a = p.low_before in
-    let b = p.high_before in
+has_sides nodes levels level s k lines own r low high low_line high_line c h before re oe le he ll hl =
+    let p = placed_at nodes c levels k h before.held in
     let i = p.level_in in
     let own_is = oe ∙ ap (level_of nodes) re in
     let low_is = le ∙ ap (low_of nodes) re in
     let high_is = he ∙ ap (high_of nodes) re in
     record {
       canonical = c;
-      in_range = l;
+      in_range = before.held;
       own_is = own_is;
       in_levels = omega arith;
-      low_line = subst (IsLine nodes levels level s (low_of nodes (k + 2))) (sym (ll ∙ ap (line_of lines) low_is)) (before (low_of nodes (k + 2)) a);
-      high_line = subst (IsLine nodes levels level s (high_of nodes (k + 2))) (sym (hl ∙ ap (line_of lines) high_is)) (before (high_of nodes (k + 2)) b);
+      low_line = subst (IsLine nodes levels level s (low_of nodes (k + 2))) (sym (ll ∙ ap (line_of lines) low_is)) before.low;
+      high_line = subst (IsLine nodes levels level s (high_of nodes (k + 2))) (sym (hl ∙ ap (line_of lines) high_is)) before.high;
     }
 
 pub value_of_sides : (nodes : List Decision) (levels : ℕ) (s : Point) (k : ℕ) (lines : List Lin) (own r low high : ℕ) (low_line high_line : Lin)
-    → IsCanonical nodes → HasLevels nodes levels → k < length nodes → HasValues nodes levels s lines k
+    → IsCanonical nodes → HasLevels nodes levels → HasSideValues nodes levels s lines k
     → r ≡ k + 2 → own ≡ level_of nodes r → low ≡ low_of nodes r → high ≡ high_of nodes r → low_line ≡ line_of lines low → high_line ≡ line_of lines high
     → blend (s own) low_line.c0 high_line.c0 ≡ extension (function nodes (k + 2)) levels s
-value_of_sides nodes levels s k lines own r low high low_line high_line c h l before re oe le he ll hl =
-    let p = placed_at nodes c levels k h l in
+value_of_sides nodes levels s k lines own r low high low_line high_line c h before re oe le he ll hl =
+    let p = placed_at nodes c levels k h before.held in
     let i = p.level_in in
     let own_is = oe ∙ ap (level_of nodes) re in
     let low_is = le ∙ ap (low_of nodes) re in
     let high_is = he ∙ ap (high_of nodes) re in
-    value_is nodes c levels s k own low_line high_line l own_is (omega arith)
-    (ap (λ z. z.c0) (ll ∙ ap (line_of lines) low_is) ∙ before (low_of nodes (k + 2)) p.low_before)
-    (ap (λ z. z.c0) (hl ∙ ap (line_of lines) high_is) ∙ before (high_of nodes (k + 2)) p.high_before)
+    value_is nodes c levels s k own low_line high_line before.held own_is (omega arith)
+    (ap (λ z. z.c0) (ll ∙ ap (line_of lines) low_is) ∙ before.low)
+    (ap (λ z. z.c0) (hl ∙ ap (line_of lines) high_is) ∙ before.high)

@@ -1,7 +1,9 @@
 // The polynomials of a store's functions in the variable of one level.
 ghost use Rattle.std.specs.Prelude.{◌≡◌, ◌+◌, ◌*◌, ◌<◌, ◌≤◌, length};
 ghost use Rattle.blic_field.specs.Field.{blend};
+ghost use Rattle.blic_store.specs.Diagram.{high_of, low_of};
 ghost use Rattle.blic_eval.specs.Lines.{HasLevels, HasLines, IsLine, line_of, point_of};
+ghost use Rattle.blic_eval.specs.Reached.{IsReachedBySome};
 
 use blic_basic::Steps;
 use blic_field::Fe;
@@ -9,29 +11,32 @@ use blic_poly2::Lin;
 use blic_store::{Ref, Store};
 use std::sync::ledger::Ledger;
 
-/// The polynomials of all decisions in the variable of `level`, where the other levels are at the
-/// point. At most two products a decision.
+/// The polynomials of the decisions that two functions lead to, in the variable of `level`, where the
+/// other levels are at the point. At most two products a decision.
 pub(crate) fn fill_lines<L: Ledger>(
     store: &Store,
+    reached: &[u32],
     level: u32,
     point: &[Fe],
     lines: &mut [Lin],
     steps: &mut Steps<L>,
 )
+    requires reached { IsReachedBySome store.now.nodes reached.now }
     requires levels { HasLevels store.now.nodes (length point.now) }
     requires level { level < length point.now }
     requires room { length store.now.nodes ≤ length lines.old }
-    ensures lines { HasLines store.now.nodes (length point.now) level (point_of point.now) lines.new (length store.now.nodes) }
+    ensures lines { HasLines store.now.nodes (length point.now) level (point_of point.now) lines.new reached.now (length reached.now) }
     ensures room { length lines.new ≡ length lines.old }
-    ensures at_most { steps.new ≤ steps.old + 2 * length store.now.nodes }
+    ensures at_most { steps.new ≤ steps.old + 2 * length reached.now }
     ensures at_least { steps.old ≤ steps.new }
 {
-    for k in 0..store.len() {
+    store.canonical_law();
+    for &k in reached {
         lines[k as usize] = line_of_decision(store, k, level, point, lines, steps);
     }
 }
 
-// The polynomial of decision `k`, from those of the decisions before it.
+// The polynomial of decision `k`, from those of the two functions that it leads to.
 fn line_of_decision<L: Ledger>(
     store: &Store,
     k: u32,
@@ -44,7 +49,8 @@ fn line_of_decision<L: Ledger>(
     requires levels { HasLevels store.now.nodes (length point.now) }
     requires level { level < length point.now }
     requires room { length store.now.nodes ≤ length lines.now }
-    requires before { HasLines store.now.nodes (length point.now) level (point_of point.now) lines.now k }
+    requires low { IsLine store.now.nodes (length point.now) level (point_of point.now) (low_of store.now.nodes (k + 2)) (line_of lines.now (low_of store.now.nodes (k + 2))) }
+    requires high { IsLine store.now.nodes (length point.now) level (point_of point.now) (high_of store.now.nodes (k + 2)) (line_of lines.now (high_of store.now.nodes (k + 2))) }
     ensures line { IsLine store.now.nodes (length point.now) level (point_of point.now) (k + 2) result }
     ensures at_most { steps.new ≤ steps.old + 2 }
     ensures at_least { steps.old ≤ steps.new }
@@ -62,10 +68,7 @@ fn line_of_decision<L: Ledger>(
             c1: high.c0.sub(low.c0),
         }
     } else {
-        Lin {
-            c0: blended(point[own as usize], low.c0, high.c0, steps),
-            c1: Fe::ZERO,
-        }
+        constant(blended(point[own as usize], low.c0, high.c0, steps))
     }
 }
 

@@ -1,14 +1,15 @@
 // The polynomials of pairs of functions that are joined.
-ghost use Rattle.std.specs.Prelude.{◌≡◌, ◌+◌, ◌*◌, ◌<◌, ◌≤◌, ℕ, [], length, min, slice_index_or};
+ghost use Rattle.std.specs.Prelude.{◌≡◌, ◌+◌, ◌*◌, ◌<◌, ◌≤◌, ℕ, [], cond, length, min, slice_index_or};
 ghost use Rattle.blic_field.specs.Quadratic.{at, HasElements};
 ghost use Rattle.blic_poly2.specs.Poly.{lin_at};
 ghost use Rattle.blic_store.specs.Diagram.{IsRef, decision_at, function};
 ghost use Rattle.blic_graph.specs.Pairs.{IsGraph, pair_at};
 ghost use Rattle.blic_eval.specs.Extension.{joined, joined_poly};
 ghost use Rattle.blic_eval.specs.Lines.{HasLevels, HasLines, line_of, point_of};
-ghost use Rattle.blic_eval.specs.Sides.{HasPolys, HasTables, IsGraphOfRefs, IsInTables, IsPairPoly, leaf_of, side_at, widened_of};
+ghost use Rattle.blic_eval.specs.Reached.{IsReached};
+ghost use Rattle.blic_eval.specs.Sides.{HasPolys, HasTables, IsFirstUnder, IsGraphOfReached, IsInTables, IsPairPoly, is_under, leaf_of, poly_of_side, widened_of};
 
-use crate::lines::{constant, fill_lines, line};
+use crate::lines::{blended, constant, fill_lines, line};
 use crate::scratch::Scratch;
 use blic_apply::Op;
 use blic_basic::Steps;
@@ -20,6 +21,7 @@ use std::sync::ledger::Ledger;
 
 /// The polynomial, in the variable of `level`, of the operation on `a` and `b`, where all levels above
 /// `level` are made linear and the others are at the point. The graph lists the pairs of `a` and `b`.
+/// The scratch is about the two from then on.
 ///
 /// It makes at most 2*N + 4*P products of elements, where N is the number of the store's decisions
 /// and P that of the graph's pairs.
@@ -41,61 +43,168 @@ pub fn poly<L: Ledger>(
     requires level { level < length point.now }
     requires room { (length store.now.nodes ≤ scratch.old.nodes) × (length graph.now ≤ scratch.old.pairs) }
     ensures poly { result ≡ joined_poly op (function store.now.nodes a) (function store.now.nodes b) (length point.now) level (λ x. slice_index_or point.now x 0) }
-    ensures scratch { scratch.new ≡ scratch.old }
+    ensures nodes { scratch.new.nodes ≡ scratch.old.nodes }
+    ensures pairs { scratch.new.pairs ≡ scratch.old.pairs }
+    ensures reached { IsReached store.now.nodes a b scratch.new.reached }
     ensures at_most { steps.new ≤ steps.old + (2 * length store.now.nodes + 4 * length graph.now) }
     ensures at_least { steps.old ≤ steps.new }
 {
-    fill_lines(store, level, point, &mut scratch.lines, steps);
-    fill_polys(
-        graph,
-        store,
-        op,
-        level,
-        point,
-        &scratch.lines,
-        &mut scratch.polys,
-        steps,
-    );
-    if graph.len() == 0 {
-        leaf_poly(op, a, b, &scratch.lines)
-    } else {
-        scratch.polys[0]
-    }
+    scratch.begin(store, a, b);
+    reached_poly(graph, store, op, a, b, level, point, scratch, steps)
 }
 
-// The polynomials of all pairs. At most four products a pair.
-fn fill_polys<L: Ledger>(
+/// The polynomial that `poly` tells, where the scratch is about `a` and `b` already: a scratch that is
+/// about two functions answers many polynomials of theirs, and their decisions are not looked for again.
+///
+/// It makes at most 2*N + 4*P products of elements, where N is the number of the decisions that `a`
+/// and `b` lead to and P that of the graph's pairs. Pairs whose level is below `level` cost nothing,
+/// but for one product where a pair above leads to one.
+pub fn reached_poly<L: Ledger>(
     graph: &Graph,
     store: &Store,
     op: Op,
+    a: Ref,
+    b: Ref,
     level: u32,
     point: &[Fe],
+    scratch: &mut Scratch,
+    steps: &mut Steps<L>,
+) -> Poly2
+    requires a_held { IsRef store.now.nodes a }
+    requires b_held { IsRef store.now.nodes b }
+    requires graph { IsGraph store.now.nodes a b graph.now }
+    requires levels { (k : ℕ) → k < length store.now.nodes → (decision_at store.now.nodes k).level < length point.now }
+    requires level { level < length point.now }
+    requires room { (length store.now.nodes ≤ scratch.old.nodes) × (length graph.now ≤ scratch.old.pairs) }
+    requires reached { IsReached store.now.nodes a b scratch.old.reached }
+    ensures poly { result ≡ joined_poly op (function store.now.nodes a) (function store.now.nodes b) (length point.now) level (λ x. slice_index_or point.now x 0) }
+    ensures scratch { scratch.new ≡ scratch.old }
+    ensures at_most { steps.new ≤ steps.old + (2 * length store.now.nodes + 4 * length graph.now) }
+    ensures few { steps.new ≤ steps.old + (2 * length scratch.old.reached + 4 * length graph.now) }
+    ensures at_least { steps.old ≤ steps.new }
+{
+    let reached = scratch.reached.numbers();
+    fill_lines(store, reached, level, point, &mut scratch.lines, steps);
+    pairs_poly(
+        graph,
+        store,
+        op,
+        a,
+        b,
+        level,
+        point,
+        reached,
+        &scratch.lines,
+        &mut scratch.polys,
+        steps,
+    )
+}
+
+// The polynomial of `a` and `b` joined, from the lines of the decisions that they lead to.
+fn pairs_poly<L: Ledger>(
+    graph: &Graph,
+    store: &Store,
+    op: Op,
+    a: Ref,
+    b: Ref,
+    level: u32,
+    point: &[Fe],
+    reached: &[u32],
     lines: &[Lin],
     polys: &mut [Poly2],
     steps: &mut Steps<L>,
-)
-    requires graph { IsGraphOfRefs store.now.nodes graph.now }
+) -> Poly2
+    requires a_held { IsRef store.now.nodes a }
+    requires b_held { IsRef store.now.nodes b }
+    requires graph { IsGraph store.now.nodes a b graph.now }
+    requires reached { IsReached store.now.nodes a b reached.now }
     requires levels { HasLevels store.now.nodes (length point.now) }
     requires level { level < length point.now }
     requires nodes_room { length store.now.nodes ≤ length lines.now }
     requires pairs_room { length graph.now ≤ length polys.old }
-    requires lines { HasLines store.now.nodes (length point.now) level (point_of point.now) lines.now (length store.now.nodes) }
-    ensures polys { HasPolys op store.now.nodes (length point.now) level (point_of point.now) graph.now polys.new 0 }
+    requires lines { HasLines store.now.nodes (length point.now) level (point_of point.now) lines.now reached.now (length reached.now) }
+    ensures poly { result ≡ joined_poly op (function store.now.nodes a) (function store.now.nodes b) (length point.now) level (point_of point.now) }
     ensures room { length polys.new ≡ length polys.old }
     ensures at_most { steps.new ≤ steps.old + 4 * length graph.now }
     ensures at_least { steps.old ≤ steps.new }
 {
     store.canonical_law();
-    let mut k = graph.len();
-    while k > 0 {
-        k -= 1;
-        polys[k as usize] = pair_poly(graph, k, op, level, point, lines, polys, steps);
+    let under = first_under(graph, level);
+    fill_polys(
+        graph, under, store, op, level, point, reached, lines, polys, steps,
+    );
+    let root = root_side(graph, a, b);
+    side_poly(graph, under, op, &root, lines, polys, steps)
+}
+
+// The number of the first pair whose level is below: the levels of pairs rise.
+fn first_under(graph: &Graph, level: u32) -> u32
+    requires { (j k : ℕ) → j < k → k < length graph.now → (pair_at graph.now j).level ≤ (pair_at graph.now k).level }
+    ensures { IsFirstUnder graph.now level result }
+{
+    let mut from = 0;
+    let mut to = graph.len();
+    while from < to {
+        let middle = from + (to - from) / 2;
+        if graph.level(middle) <= level {
+            from = middle + 1;
+        } else {
+            to = middle;
+        }
+    }
+    from
+}
+
+// The two functions as a side.
+fn root_side(graph: &Graph, a: Ref, b: Ref) -> Side
+    ensures pair { 0 < length graph.now → result ≡ Side.Pair 0 }
+    ensures done { length graph.now ≡ 0 → result ≡ Side.Done a b }
+{
+    if graph.len() == 0 {
+        Side::Done(a, b)
+    } else {
+        Side::Pair(0)
     }
 }
 
-// The polynomial of pair `k`, from the lines of its functions, or from the polynomials of its sides.
+// The polynomials of the pairs before the first one under the level. At most four products a pair.
+fn fill_polys<L: Ledger>(
+    graph: &Graph,
+    under: u32,
+    store: &Store,
+    op: Op,
+    level: u32,
+    point: &[Fe],
+    reached: &[u32],
+    lines: &[Lin],
+    polys: &mut [Poly2],
+    steps: &mut Steps<L>,
+)
+    requires graph { IsGraphOfReached store.now.nodes graph.now reached.now }
+    requires under { IsFirstUnder graph.now level under }
+    requires levels { HasLevels store.now.nodes (length point.now) }
+    requires level { level < length point.now }
+    requires nodes_room { length store.now.nodes ≤ length lines.now }
+    requires pairs_room { length graph.now ≤ length polys.old }
+    requires lines { HasLines store.now.nodes (length point.now) level (point_of point.now) lines.now reached.now (length reached.now) }
+    ensures polys { HasPolys op store.now.nodes (length point.now) level (point_of point.now) graph.now under polys.new 0 }
+    ensures room { length polys.new ≡ length polys.old }
+    ensures at_most { steps.new ≤ steps.old + 4 * under }
+    ensures at_least { steps.old ≤ steps.new }
+{
+    store.canonical_law();
+    let mut k = under;
+    while k > 0 {
+        k -= 1;
+        polys[k as usize] = pair_poly(graph, under, k, op, level, point, lines, polys, steps);
+    }
+}
+
+// The polynomial of pair `k`, which is not under the level: from the lines of its functions, or from
+// the polynomials of its sides.
 fn pair_poly<L: Ledger>(
     graph: &Graph,
+    under: u32,
     k: u32,
     op: Op,
     level: u32,
@@ -104,44 +213,73 @@ fn pair_poly<L: Ledger>(
     polys: &[Poly2],
     steps: &mut Steps<L>,
 ) -> Poly2
-    requires k { k < length graph.now }
+    requires k { k < under }
+    requires under { IsFirstUnder graph.now level under }
     requires level { level < length point.now }
-    requires tables { HasTables lines.now polys.now (pair_at graph.now k) }
-    ensures poly { IsPairPoly op level (point_of point.now) lines.now polys.now (pair_at graph.now k) result }
+    requires pairs_room { length graph.now ≤ length polys.now }
+    requires tables { HasTables graph.now lines.now (pair_at graph.now k) }
+    ensures poly { IsPairPoly op level (point_of point.now) graph.now under lines.now polys.now (pair_at graph.now k) result }
     ensures at_most { steps.new ≤ steps.old + 4 }
     ensures at_least { steps.old ≤ steps.new }
 {
     let own = graph.level(k);
-    if own < level {
-        let (low, high) = graph.children(k);
-        let low = side_poly(op, low, lines, polys);
-        let high = side_poly(op, high, lines, polys);
-        return Poly2::blend(point[own as usize], &low, &high, steps);
-    }
-    let (first, second) = graph.pair(k);
-    let first = line(lines, first);
-    let second = line(lines, second);
     if own == level {
-        join_lines(op, &first, &second, steps)
+        let (first, second) = graph.pair(k);
+        let (first, second) = (line(lines, first), line(lines, second));
+        return join_lines(op, &first, &second, steps);
+    }
+    let (low, high) = graph.children(k);
+    let low_poly = side_poly(graph, under, op, &low, lines, polys, steps);
+    let high_poly = side_poly(graph, under, op, &high, lines, polys, steps);
+    if is_under(under, &low) && is_under(under, &high) {
+        let value = blended(point[own as usize], low_poly.c0, high_poly.c0, steps);
+        widened(constant(value))
     } else {
-        widened(constant(join(op, first.c0, second.c0, steps)))
+        Poly2::blend(point[own as usize], &low_poly, &high_poly, steps)
     }
 }
 
-// The polynomial of a side.
-fn side_poly(op: Op, side: Side, lines: &[Lin], polys: &[Poly2]) -> Poly2
-    requires { IsInTables lines.now polys.now side }
-    ensures { (t : ℕ) → at result t ≡ side_at op lines.now polys.now side t }
+// Whether a side is a pair from the first one under the level on.
+fn is_under(under: u32, side: &Side) -> bool
+    ensures { result ≡ is_under under side.now }
 {
-    match side {
-        Side::Pair(k) => polys[k as usize],
+    match *side {
+        Side::Pair(k) => under <= k,
+        Side::Done(_, _) => false,
+    }
+}
+
+// The polynomial of a side, by one product where it is a pair under the level.
+fn side_poly<L: Ledger>(
+    graph: &Graph,
+    under: u32,
+    op: Op,
+    side: &Side,
+    lines: &[Lin],
+    polys: &[Poly2],
+    steps: &mut Steps<L>,
+) -> Poly2
+    requires side { IsInTables graph.now lines.now side.now }
+    requires under { under ≤ length polys.now }
+    ensures poly { result ≡ poly_of_side op graph.now under lines.now polys.now side.now }
+    ensures count { steps.new ≡ steps.old + cond (is_under under side.now) 1 0 }
+{
+    match *side {
+        Side::Pair(k) => {
+            if k < under {
+                return polys[k as usize];
+            }
+            let (first, second) = graph.pair(k);
+            let (first, second) = (line(lines, first), line(lines, second));
+            widened(constant(join(op, first.c0, second.c0, steps)))
+        }
         Side::Done(first, second) => leaf_poly(op, first, second, lines),
     }
 }
 
 // The polynomial of two functions joined, one of them constant.
 fn leaf_poly(op: Op, first: Ref, second: Ref, lines: &[Lin]) -> Poly2
-    requires { IsInTables lines.now [] (Side.Done first second) }
+    requires { IsInTables [] lines.now (Side.Done first second) }
     ensures { result ≡ widened_of (line_of lines.now (leaf_of op first second)) }
 {
     widened(line(lines, leaf(op, first, second)))

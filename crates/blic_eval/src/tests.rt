@@ -1,5 +1,5 @@
 // Polynomials and values of functions of two and three levels, which integers in Python gave.
-ghost use Rattle.std.specs.Prelude.{◌≡◌, ◌<◌, IsTrue, ℕ, length};
+ghost use Rattle.std.specs.Prelude.{◌≡◌, ◌<◌, ◌≤◌, IsTrue, length};
 ghost use Rattle.blic_eval.specs.Lines.{HasLevels};
 
 use super::*;
@@ -128,6 +128,44 @@ fn values_counted<L: Ledger>(
     Ok(pair_values(store, a, b, point, &mut scratch, &mut steps))
 }
 
+// The polynomials of two functions in levels 0 and 1, and their values, by a scratch that was about
+// others before.
+fn all_counted<L: Ledger>(
+    alloc: Global,
+    store: &Store,
+    op: Op,
+    refs: (Ref, Ref),
+    point: &[Fe],
+    scratch: &mut Scratch,
+    blank: Blank,
+) -> Result<(Poly2, Poly2, (Fe, Fe)), Fail>
+    requires nodes { length store.now.nodes ≤ scratch.old.nodes }
+    requires pairs { 100 ≤ scratch.old.pairs }
+    requires name { blank.name ≡ L.name }
+    requires parts { blank.parts ≡ L.parts }
+    requires some { 0 < L.parts }
+    ensures nodes { scratch.new.nodes ≡ scratch.old.nodes }
+    ensures pairs { scratch.new.pairs ≡ scratch.old.pairs }
+{
+    let (a, b) = refs;
+    if !store.holds(a) || !store.holds(b) {
+        return Err("a ref of another store")?;
+    }
+    if point.len() < 2 || !fits(store, point.len()) {
+        return Err("a level past the point")?;
+    }
+    let graph = Graph::list(alloc, store, a, b, 100)?;
+    let mut steps = Steps::<L>::new(blank);
+    let top = poly(&graph, store, op, a, b, 0, point, scratch, &mut steps);
+    let next = reached_poly(&graph, store, op, a, b, 1, point, scratch, &mut steps);
+    let values = reached_values(store, a, b, point, scratch, &mut steps);
+    Ok((top, next, values))
+}
+
+fn numbers(p: &Poly2) -> (u64, u64, u64) {
+    (p.c0.value(), p.c1.value(), p.c2.value())
+}
+
 fn poly_of(
     alloc: Global,
     store: &Store,
@@ -137,7 +175,7 @@ fn poly_of(
     point: &[Fe],
 ) -> Result<(u64, u64, u64), Fail> {
     let p = poly_counted::<Brand>(alloc, store, op, refs, level, point, Blank::new(1))?;
-    Ok((p.c0.value(), p.c1.value(), p.c2.value()))
+    Ok(numbers(&p))
 }
 
 fn values_of(
@@ -148,6 +186,36 @@ fn values_of(
 ) -> Result<(u64, u64), Fail> {
     let (u, w) = values_counted::<Brand>(alloc, store, refs, point, Blank::new(1))?;
     Ok((u.value(), w.value()))
+}
+
+// What the scratch finds: the polynomials in levels 0 and 1, and the values.
+fn all_of(
+    alloc: Global,
+    store: &Store,
+    op: Op,
+    refs: (Ref, Ref),
+    scratch: &mut Scratch,
+) -> Result<((u64, u64, u64), (u64, u64, u64), (u64, u64)), Fail>
+    requires nodes { length store.now.nodes ≤ scratch.old.nodes }
+    requires pairs { 100 ≤ scratch.old.pairs }
+    ensures nodes { scratch.new.nodes ≡ scratch.old.nodes }
+    ensures pairs { scratch.new.pairs ≡ scratch.old.pairs }
+{
+    let point = [element(7)?, element(11)?, element(13)?];
+    let (top, next, values) = all_counted::<Brand>(
+        alloc,
+        store,
+        op,
+        refs,
+        &point,
+        scratch,
+        Blank::new(1),
+    )?;
+    Ok((
+        numbers(&top),
+        numbers(&next),
+        (values.0.value(), values.1.value()),
+    ))
 }
 
 #[test]
@@ -223,5 +291,33 @@ fn functions_of_three_levels_have_their_values(rt: HostRuntime) -> Result<(), Fa
         let found = values_of(rt.alloc(), &store, refs, &point)?;
         assert_eq!(rt; found, expected, "{first} and {second}");
     }
+    Ok(())
+}
+
+#[test]
+fn one_scratch_serves_functions_in_turn_beside_many_others(rt: HostRuntime) -> Result<(), Fail> {
+    let mut store = Store::new(rt.alloc(), 100)?;
+    function(&mut store, 0x17)?;
+    let first = (function(&mut store, 0x6a)?, function(&mut store, 0x1d)?);
+    function(&mut store, 0xe8)?;
+    let second = (function(&mut store, 0xca)?, function(&mut store, 0x96)?);
+    function(&mut store, 0x81)?;
+    let mut scratch = Scratch::new(rt.alloc(), store.len(), 100)?;
+    let of_first = (
+        (MODULUS - 20306, 41900, MODULUS - 2850),
+        (0, MODULUS - 162, 2106),
+        (MODULUS - 1852, MODULUS - 72),
+    );
+    let of_second = (
+        (37347, MODULUS - 77706, 6300),
+        (MODULUS - 1254, 4544, MODULUS - 4225),
+        (59, 3413),
+    );
+    let found = all_of(rt.alloc(), &store, Op::And, first, &mut scratch)?;
+    assert_eq!(rt; found, of_first);
+    let found = all_of(rt.alloc(), &store, Op::Or, second, &mut scratch)?;
+    assert_eq!(rt; found, of_second);
+    let found = all_of(rt.alloc(), &store, Op::And, first, &mut scratch)?;
+    assert_eq!(rt; found, of_first);
     Ok(())
 }

@@ -1,4 +1,4 @@
-use Rattle.std.proofs.Common.{arith, sym, ap}
+use Rattle.std.proofs.Common.{arith, refl, sym, ◌∙◌, ap}
 use Rattle.std.specs.Prelude.{map}
 use Rattle.blic_engine.specs.Costs.{most_products}
 use Rattle.blic_engine.specs.Polys.{stored_poly}
@@ -7,7 +7,8 @@ use Rattle.blic_engine.proofs.polys.fill.Goals as goal
 
 pub loop-claim-init : goal.loop-claim-init
 loop-claim-init g c = record {
-  filled = ap (map (stored_poly c.args.engine.now c.args.points.now c.args.node c.args.j)) (sym below_none);
+  filled = ap (map (stored_poly c.args.circuit.now c.args.points.now c.args.node c.args.j)) (sym below_none);
+  scratch = refl;
   room = c.requires.room;
   at_most = omega arith;
   at_least = omega arith;
@@ -16,9 +17,10 @@ loop-claim-init g c = record {
 pub loop-claim-preserved : goal.loop-claim-preserved
 loop-claim-preserved g c = record {
   filled =
-      filled_more (stored_poly c.args.engine.now c.args.points.now c.args.node c.args.j) c.loop-claim.out c.loop-claim.claim c.claim_poly.result (omega arith)
+      filled_more (stored_poly c.args.circuit.now c.args.points.now c.args.node c.args.j) c.loop-claim.out c.loop-claim.claim c.claim_poly.result (omega arith)
       c.loop-claim.invariant.filled c.claim_poly.ensures.poly;
+  scratch = c.claim_poly.ensures.scratch ∙ c.loop-claim.invariant.scratch;
   room = c.claim_poly.ensures.room;
-  at_most = omega (arith, count_more c.loop-claim.claim (most_products c.args.engine.now c.args.node));
+  at_most = omega (arith, count_more c.loop-claim.claim (most_products c.args.circuit.now c.args.node));
   at_least = omega arith;
 }

@@ -9,8 +9,9 @@ use Rattle.blic_engine.proofs.polys.fill.Given as goal
 -- the polynomials so far
 abbrev pub invariant-loop-claim : goal.invariant-loop-claim
 invariant-loop-claim g l = record {
-  filled : take l.claim l.out ≡ map (stored_poly l.engine l.points l.node l.j) (below l.claim);
-  room : HasRoom l.engine l.scratch l.point;
-  at_most : l.steps ≤ l.initial.steps + l.claim * most_products l.engine l.node;
+  filled : take l.claim l.out ≡ map (stored_poly l.circuit l.points l.node l.j) (below l.claim);
+  scratch : l.scratch ≡ l.fn.scratch;
+  room : HasRoom l.circuit l.scratch l.point;
+  at_most : l.steps ≤ l.initial.steps + l.claim * most_products l.circuit l.node;
   at_least : l.initial.steps ≤ l.steps;
 }

@@ -18,7 +18,7 @@ pub returns-then-own-level-clause-line : goal.returns-then-own-level-clause-line
 returns-then-own-level-clause-line g c =
     let nodes = c.args.store.now.nodes in
     let sides = has_sides nodes (length c.args.point.now) c.args.level (point_of c.args.point.now) c.args.k c.args.lines.now c.level-own.result c.numbered-r.result c.low.result c.high.result
-    c.line-low.result c.line-high.result c.canonical_law.ensures.canonical c.requires.levels c.requires.k c.requires.before
+    c.line-low.result c.line-high.result c.canonical_law.ensures.canonical c.requires.levels (record { held = c.requires.k; low = c.requires.low; high = c.requires.high })
     c.numbered-r.ensures c.level-own.ensures c.low.ensures c.high.ensures c.line-low.ensures c.line-high.ensures in
     let read = get_or_read c.args.point.now c.level-own.result c.index-point-own.result (omega (arith, c.requires.level, c.if-own-level.true)) c.index-point-own.is 0 in
     line_above nodes (length c.args.point.now) c.args.level (point_of c.args.point.now) c.args.k c.level-own.result c.line-low.result c.line-high.result c.blend.result sides c.if-own-level.true
@@ -28,7 +28,7 @@ pub returns-then-own-level-2-clause-line : goal.returns-then-own-level-2-clause-
 returns-then-own-level-2-clause-line g c =
     let nodes = c.args.store.now.nodes in
     let sides = has_sides nodes (length c.args.point.now) c.args.level (point_of c.args.point.now) c.args.k c.args.lines.now c.level-own.result c.numbered-r.result c.low.result c.high.result
-    c.line-low.result c.line-high.result c.canonical_law.ensures.canonical c.requires.levels c.requires.k c.requires.before
+    c.line-low.result c.line-high.result c.canonical_law.ensures.canonical c.requires.levels (record { held = c.requires.k; low = c.requires.low; high = c.requires.high })
     c.numbered-r.ensures c.level-own.ensures c.low.ensures c.high.ensures c.line-low.ensures c.line-high.ensures in
     line_here nodes (length c.args.point.now) c.args.level (point_of c.args.point.now) c.args.k c.level-own.result c.line-low.result c.line-high.result _ sides c.if-own-level-2.true
     (λ i. record { c0 = c.line-low.result.c0; c1 = c.sub.ensures i })
@@ -37,11 +37,11 @@ pub returns-else-own-level-2-clause-line : goal.returns-else-own-level-2-clause-
 returns-else-own-level-2-clause-line g c =
     let nodes = c.args.store.now.nodes in
     let sides = has_sides nodes (length c.args.point.now) c.args.level (point_of c.args.point.now) c.args.k c.args.lines.now c.level-own.result c.numbered-r.result c.low.result c.high.result
-    c.line-low.result c.line-high.result c.canonical_law.ensures.canonical c.requires.levels c.requires.k c.requires.before
+    c.line-low.result c.line-high.result c.canonical_law.ensures.canonical c.requires.levels (record { held = c.requires.k; low = c.requires.low; high = c.requires.high })
     c.numbered-r.ensures c.level-own.ensures c.low.ensures c.high.ensures c.line-low.ensures c.line-high.ensures in
     let inside = sides.in_levels in
     let read = get_or_read c.args.point.now c.level-own.result c.index-point-own-else-own-level-2.result (omega arith) c.index-point-own-else-own-level-2.is 0 in
     let value = c.blended.ensures.value ∙ ap (λ z. blend z c.line-low.result.c0 c.line-high.result.c0) read in
     line_under nodes (length c.args.point.now) c.args.level (point_of c.args.point.now) c.args.k c.level-own.result c.line-low.result c.line-high.result _ sides
     (let ne = c.if-own-level-2.false in let le = c.if-own-level.false in omega arith)
-    (λ i. record { c0 = value i; c1 = 0 })
+    (c.constant.ensures ∙ (λ i. record { c0 = value i; c1 = 0 }))

@@ -6,10 +6,10 @@ use Rattle.blic_eval.proofs.pairs.fill_polys.Given as goal
 -- the polynomials of the pairs from k on are there
 abbrev pub invariant-loop-k : goal.invariant-loop-k
 invariant-loop-k g l = record {
-  inside : l.k ≤ length l.graph;
-  polys : HasPolys l.op l.store.nodes (length l.point) l.level (point_of l.point) l.graph l.polys l.k;
+  inside : l.k ≤ l.under;
+  polys : HasPolys l.op l.store.nodes (length l.point) l.level (point_of l.point) l.graph l.under l.polys l.k;
   long : length l.polys ≡ length l.fn.polys;
-  at_most : l.steps ≤ l.fn.steps + 4 * (length l.graph - l.k);
+  at_most : l.steps ≤ l.fn.steps + 4 * (l.under - l.k);
   at_least : l.fn.steps ≤ l.steps;
 }
 

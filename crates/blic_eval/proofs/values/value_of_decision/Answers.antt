@@ -22,5 +22,5 @@ returns-clause-value g c =
     c.blended.ensures.value
     ∙ (ap (λ z. blend z c.line-low.result.c0 c.line-high.result.c0) read
     ∙ value_of_sides c.args.store.now.nodes (length c.args.point.now) (point_of c.args.point.now) c.args.k c.args.lines.now c.level.result c.numbered-r.result c.low.result c.high.result
-    c.line-low.result c.line-high.result c.canonical_law.ensures.canonical c.requires.levels c.requires.k c.requires.before
+    c.line-low.result c.line-high.result c.canonical_law.ensures.canonical c.requires.levels (record { held = c.requires.k; low = c.requires.low; high = c.requires.high })
     c.numbered-r.ensures c.level.ensures c.low.ensures c.high.ensures c.line-low.ensures c.line-high.ensures)

@@ -17,8 +17,12 @@ invariant_of-result c =
     let nodes = ap (λ z. z.nodes) c.in_ok-scratch.ensures in
     let pairs = ap (λ z. z.pairs) c.in_ok-scratch.ensures in
     let levels : c.levels.result ≡ length circuit.order = search rules in
-    room_is circuit c.plan-plan.result.now shaped c.plan-plan.ensures c.in_ok-scratch.scratch c.in_ok-point.point.items
-    (omega arith)
-    (λ k. (let most : pair_count (graph_of c.plan-plan.result.now k) ≤ c.largest_graph.result = c.largest_graph.ensures.most k in omega arith))
-    (omega arith)
-    (elements_start c.in_ok-point.point.items c.levels.result items)
+    record {
+      solved = c.plan-plan.ensures;
+      room = room_is circuit c.plan-plan.result.now shaped c.plan-plan.ensures c.in_ok-scratch.scratch c.in_ok-point.point.items
+          (omega arith)
+          (λ k. (let most : pair_count (graph_of c.plan-plan.result.now k) ≤ c.largest_graph.result = c.largest_graph.ensures.most k in omega arith))
+          (omega arith)
+          (elements_start c.in_ok-point.point.items c.levels.result items);
+      reached = tt;
+    }
