@@ -27,7 +27,7 @@ impl Model for Draws {
 
     ghost view = { λ d. record { seed = d.seed; place = d.place } };
 
-    ghost invariant = { λ d. (d.words ≡ record { key = key_of d.seed; stream = 0; word_pos = 2 * d.place }) × (d.place ≤ 2 ^ 60) };
+    ghost invariant = { λ d. (d.words ≡ record { key = key_of d.seed; stream = 0; word_pos = 2 * d.place }) × (d.place ≤ 2 ^ 62) };
 }
 
 impl Draws {
@@ -38,9 +38,9 @@ impl Draws {
         Draws::at(seed, 0)
     }
 
-    /// The draws of a seed from a place on, of at most 2^60.
+    /// The draws of a seed from a place on, of at most 2^62.
     pub fn at(seed: [u8; 32], place: u64) -> Draws
-        requires { place ≤ 2 ^ 60 }
+        requires { place ≤ 2 ^ 62 }
         ensures { result ≡ record { seed = seed; place = place } }
     {
         let mut words = ChaCha20Rng::from_seed(seed);
@@ -50,7 +50,7 @@ impl Draws {
 
     /// The next draw.
     pub fn next(&mut self) -> Fe
-        requires { self.old.place < 2 ^ 60 }
+        requires { self.old.place < 2 ^ 62 }
         ensures draw { result ≡ draw_at self.old.seed self.old.place }
         ensures place { self.new ≡ record self.old { place = self.old.place + 1 } }
     {

@@ -4,7 +4,8 @@ use Rattle.std.specs.Prelude.{Option, Some, None}
 use Rattle.std.specs.Io.KnownBytes.{append_known}
 use Rattle.blic_field.specs.Field.{modulus}
 use Rattle.blic_basic.specs.Watching.{Adds}
-use Rattle.blic_draw.specs.Draws.{DrawsFrom, draw_at, element_of, word_of}
+use Rattle.blic_draw.specs.Draws.{draw_at, element_of, word_of}
+use Rattle.blic_top.specs.DrawRun.{DrawsOf, Source, draw_from}
 use Rattle.std.proofs.lemmas.Bool.{cases_eq, eq-eqb, ne_eqb, cond-true, cond-false}
 use Rattle.blic_top.specs.Printing.{talk_text}
 use Rattle.blic_model.specs.Circuit.{OrderedCircuit}
@@ -64,7 +65,7 @@ read_stands c h draw elements asks ask asked t u (Some (Polys ps)) n m stands is
 read_stands c h draw elements asks ask asked t u (Some (Values v w)) n m stands is_open e = next_stands c h draw elements asks ask asked t u (Values v w) n m stands is_open e
 
 -- the position after an ask and its reply
-pub led : (x y : Conversation) (d e : DrawsFrom) (c : OrderedCircuit) (h : HelloOf) (draw : ℕ → ℕ) → ((n : ℕ) → draw n < modulus) → (asks : List Ask) (ask : Ask) (t : Talk) (says : Option Said)
+pub led : (x y : Conversation) (d e : DrawsOf) (c : OrderedCircuit) (h : HelloOf) (draw : ℕ → ℕ) → ((n : ℕ) → draw n < modulus) → (asks : List Ask) (ask : Ask) (t : Talk) (says : Option Said)
     (result : Exchanged) → x.prover.circuit ≡ c → x.prover.served ≡ h → y.prover.circuit ≡ c → y.prover.served ≡ h → IsAt x d asks ask t → ProverStandsFor y.prover (asks ++ ask ∷ [])
     → IsFollowed y.verifier e (read_on c draw (Awaits ask t d.place) says) result → IsLed y e asks ask t (read_on c draw (Awaits ask t d.place) says) result
 led x y d e c h draw elements asks ask t says (Asks next) xc xh yc yh at stands (u, is, talked, going, waiting) =
@@ -88,14 +89,14 @@ led x y d e c h draw elements asks ask t says (Ends (Failed failure)) xc xh yc y
 led x y d e c h draw elements asks ask t says (Ends Unprinted) xc xh yc yh at stands follows = absurd follows
 
 -- all lines are printed
-pub all_printed : (old new : Option (List ℕ)) (lines : List ℕ) (v : Verifying) (d : DrawsFrom) (p : Position) (result : Exchanged) → IsFollowed v d p result
+pub all_printed : (old new : Option (List ℕ)) (lines : List ℕ) (v : Verifying) (d : DrawsOf) (p : Position) (result : Exchanged) → IsFollowed v d p result
     → new ≡ append_known old lines → ArePrinted old new lines result
 all_printed old new lines v d p (Asks next) follows is = is
 all_printed old new lines v d p (Ends (Certified b)) follows is = is
 all_printed old new lines v d p (Ends (Failed failure)) follows is = is
 all_printed old new lines v d p (Ends Unprinted) follows is = absurd follows
 
-pub no_fault : (before now : ℕ) (v : Verifying) (d : DrawsFrom) (p : Position) (result : Exchanged) → IsFollowed v d p result → now ≡ before → ExchangeCounts before now result
+pub no_fault : (before now : ℕ) (v : Verifying) (d : DrawsOf) (p : Position) (result : Exchanged) → IsFollowed v d p result → now ≡ before → ExchangeCounts before now result
 no_fault before now v d p (Asks next) follows is = is
 no_fault before now v d p (Ends (Certified b)) follows is = is
 no_fault before now v d p (Ends (Failed failure)) follows is = is
@@ -113,6 +114,9 @@ element_below w small = elim (cases_eq w modulus) [
   | inr other ↦ subst (λ z. z < modulus) (sym (cond-false (eqb w modulus) 0 w (ne_eqb w modulus other))) (omega arith)
 ]
 
-pub draw_element : (seed : List ℕ) (t : ℕ) → draw_at seed t < modulus
+draw_element : (seed : List ℕ) (t : ℕ) → draw_at seed t < modulus
 unfolding draw_at
 draw_element seed t = element_below ((word_of seed (2 * t) + 2 ^ 32 * word_of seed (2 * t + 1)) % 2 ^ 61) (omega arith)
+
+pub element_drawn : (source : Source) (n : ℕ) → draw_from source n < modulus
+element_drawn source n = draw_element source.seed (source.first + n)

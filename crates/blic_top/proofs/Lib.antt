@@ -1,6 +1,9 @@
 mod Certified
 mod Clauses
+mod DrawCount
+mod Elements
 mod Exchanging
+mod Exercised
 mod Following
 mod Honesty
 mod Numbers

@@ -1,10 +1,10 @@
 -- The way of a conversation, exchange by exchange.
-use Rattle.std.proofs.Common.{arith, ℕ, ◌≡◌, ◌+◌, refl, sym, ◌∙◌, ap, subst, inr, List, [], ◌∷◌, ◌++◌, take, Bool, true, false, cond, append_assoc, append-nil}
+use Rattle.std.proofs.Common.{arith, ℕ, ◌≡◌, ◌+◌, ◌<◌, refl, sym, ◌∙◌, ap, subst, inr, List, [], ◌∷◌, ◌++◌, take, Bool, true, false, cond, append_assoc, append-nil}
 use Rattle.std.specs.Prelude.{Option, Some, None}
 use Rattle.std.specs.Io.KnownBytes.{append_known}
 use Rattle.std.proofs.lemmas.Grind.{flat_map-append}
 use Rattle.blic_basic.proofs.Appended.{append_known-append}
-use Rattle.blic_draw.specs.Draws.{DrawsFrom, draw_at}
+use Rattle.blic_top.specs.DrawRun.{DrawsOf, draw_from}
 use Rattle.blic_model.specs.Circuit.{OrderedCircuit}
 use Rattle.blic_messages.specs.Frames.{ask_spelling, reply_spelling}
 use Rattle.blic_messages.specs.Reading.{Reads}
@@ -18,7 +18,11 @@ use Rattle.blic_basic.specs.Watching.{Adds}
 use Rattle.blic_top.specs.Wire.{IsCarried, Leads}
 use Rattle.blic_top.specs.World.{Shows}
 use Rattle.blic_top.specs.Printing.{frame_line, talk_text}
-use Rattle.blic_top.specs.Talking.{ArePrinted, HasCome, IsAt, IsLed, IsOnWay, IsParted, IsTalk, IsWay, lines_of, replies_in}
+use Rattle.blic_top.specs.Talking.{ArePrinted, HasCome, IsAt, IsLed, IsOnWay, IsParted, IsTalk, IsWay, IsWorthIf, lines_of, replies_in}
+use Rattle.blic_top.specs.Worth.{IsWorthOn}
+use Rattle.blic_top.proofs.Elements.{worth_on}
+use Rattle.blic_top.proofs.Exchanging.{element_drawn}
+use Rattle.blic_field.specs.Field.{modulus}
 use Rattle.blic_top.specs.declared.conversation.Conversation.{Conversation}
 use Rattle.blic_top.specs.declared.conversation.Exchanged.TheVariants.{Asks, Ends}
 use Rattle.blic_top.specs.declared.conversation.Talked.{Talked as TalkedOf}
@@ -74,7 +78,7 @@ front_more_lines x y old mid new xs ys talk before (n, after) =
     (more.0, more.1 ∙ ap (λ ls. append_known old (take more.0 ls)) (sym whole))
 
 -- no frame so far
-pub at_the_start : (x : Conversation) (d : DrawsFrom) (draw : ℕ → ℕ) (alters : Bool) (seen : Option (List (List ℕ))) (held : Option (List ℕ)) → d.place ≡ 0 → IsAt x d [] (Hello x.hello) Silent
+pub at_the_start : (x : Conversation) (d : DrawsOf) (draw : ℕ → ℕ) (alters : Bool) (seen : Option (List (List ℕ))) (held : Option (List ℕ)) → d.place ≡ 0 → IsAt x d [] (Hello x.hello) Silent
     → held ≡ append_known held [] → IsOnWay x draw alters x d (Hello x.hello) seen seen held held 0
 at_the_start x d draw alters seen held place at same =
     ([], Silent, [], at, ap (Awaits (Hello x.hello) Silent) (sym place), shows_none seen, same ∙ ap (append_known held) (sym (no_lines x)), refl)
@@ -91,54 +95,60 @@ nothing_more None = refl
 nothing_more (Some bytes) = ap Some (sym (append-nil bytes))
 
 -- an exchange more
-pub onward : (first x y : Conversation) (draw : ℕ → ℕ) (alters : Bool) (d e : DrawsFrom) (ask next : Ask) (seen seen_mid seen_now : Option (List (List ℕ))) (held held_mid held_now : Option (List ℕ)) (count : ℕ)
-    (asks : List Ask) (t : Talk) (way : List (List ℕ)) (came : List ℕ) → x.circuit.now ≡ first.circuit.now → x.talk ≡ first.talk → draw ≡ draw_at d.seed
+pub onward : (first x y : Conversation) (draw : ℕ → ℕ) (alters : Bool) (d e : DrawsOf) (ask next : Ask) (seen seen_mid seen_now : Option (List (List ℕ))) (held held_mid held_now : Option (List ℕ)) (count : ℕ)
+    (asks : List Ask) (t : Talk) (way : List (List ℕ)) (came : List ℕ) → x.circuit.now ≡ first.circuit.now → x.talk ≡ first.talk → draw ≡ draw_from d.source
     → Leads first.circuit.now draw alters (beginning first.hello) way (Awaits ask t d.place) → Shows seen seen_mid way → held_mid ≡ append_known held (lines_of first way) → replies_in t ≡ count
     → Shows seen_mid seen_now (ask_spelling ask ∷ came ∷ []) → HasCome x y d e alters asks ask t came (Asks next) → held_now ≡ append_known held_mid (lines_of x (ask_spelling ask ∷ came ∷ []))
     → IsOnWay first draw alters y e next seen seen_now held held_now (count + 1)
-onward first x y draw alters d e ask next seen seen_mid seen_now held held_mid held_now count asks t way came circuit talk is_draw leads shown printed counted shows (carried, (says, reads, (u, is, at, more))) lines = (
+onward first x y draw alters d e ask next seen seen_mid seen_now held held_mid held_now count asks t way came circuit talk is_draw leads shown printed counted shows (carried, (says, reads, (u, is, at, more), worth)) lines = (
   asks ++ ask ∷ [],
   u,
   way ++ ask_spelling ask ∷ came ∷ [],
   at,
   leads_more first.circuit.now draw alters (beginning first.hello) way ask t d.place came says (Awaits next u e.place) leads (subst (λ z. IsCarried alters (reply_spelling (honest_reply z t)) came) circuit carried) reads
-      (ap (λ z. read_on first.circuit.now z (Awaits ask t d.place) says) is_draw ∙ (ap (λ z. read_on z (draw_at d.seed) (Awaits ask t d.place) says) (sym circuit) ∙ is)),
+      (ap (λ z. read_on first.circuit.now z (Awaits ask t d.place) says) is_draw ∙ (ap (λ z. read_on z (draw_from d.source) (Awaits ask t d.place) says) (sym circuit) ∙ is)),
   shows_more seen seen_mid seen_now way (ask_spelling ask ∷ came ∷ []) shown shows,
   printed_more_lines first x held held_mid held_now way (ask_spelling ask ∷ came ∷ []) talk printed lines,
   more ∙ omega (arith, counted),
 )
 
 -- an exchange that ends it
-pub to_the_end : (first x y : Conversation) (draw : ℕ → ℕ) (alters : Bool) (d e : DrawsFrom) (ask : Ask) (seen seen_mid seen_now : Option (List (List ℕ))) (held held_mid held_now : Option (List ℕ))
-    (asks : List Ask) (t : Talk) (way : List (List ℕ)) (came : List ℕ) (result : TalkedOf) → x.circuit.now ≡ first.circuit.now → x.talk ≡ first.talk → draw ≡ draw_at d.seed
+pub to_the_end : (first x y : Conversation) (draw : ℕ → ℕ) (alters : Bool) (d e : DrawsOf) (ask : Ask) (seen seen_mid seen_now : Option (List (List ℕ))) (held held_mid held_now : Option (List ℕ))
+    (asks : List Ask) (t : Talk) (way : List (List ℕ)) (came : List ℕ) (result : TalkedOf) → x.circuit.now ≡ first.circuit.now → x.talk ≡ first.talk → draw ≡ draw_from d.source
     → Leads first.circuit.now draw alters (beginning first.hello) way (Awaits ask t d.place) → Shows seen seen_mid way → held_mid ≡ append_known held (lines_of first way)
     → Shows seen_mid seen_now (ask_spelling ask ∷ came ∷ []) → HasCome x y d e alters asks ask t came (Ends result) → ArePrinted held_mid held_now (lines_of x (ask_spelling ask ∷ came ∷ [])) (Ends result)
     → (all : List (List ℕ)) × Shows seen seen_now all × IsWay first draw alters all held held_now result
-to_the_end first x y draw alters d e ask seen seen_mid seen_now held held_mid held_now asks t way came result circuit talk is_draw leads shown printed shows (carried, (says, reads, led)) lines =
-    (way ++ ask_spelling ask ∷ came ∷ [], shows_more seen seen_mid seen_now way (ask_spelling ask ∷ came ∷ []) shown shows, from result led lines)
+to_the_end first x y draw alters d e ask seen seen_mid seen_now held held_mid held_now asks t way came result circuit talk is_draw leads shown printed shows (carried, (says, reads, led, worth)) lines =
+    (way ++ ask_spelling ask ∷ came ∷ [], shows_more seen seen_mid seen_now way (ask_spelling ask ∷ came ∷ []) shown shows, from result led lines worth)
   where
-    to : (q : Position) → read_on x.circuit.now (draw_at d.seed) (Awaits ask t d.place) says ≡ q → Leads first.circuit.now draw alters (beginning first.hello) (way ++ ask_spelling ask ∷ came ∷ []) q
+    to : (q : Position) → read_on x.circuit.now (draw_from d.source) (Awaits ask t d.place) says ≡ q → Leads first.circuit.now draw alters (beginning first.hello) (way ++ ask_spelling ask ∷ came ∷ []) q
     to q is =
         leads_more first.circuit.now draw alters (beginning first.hello) way ask t d.place came says q leads (subst (λ z. IsCarried alters (reply_spelling (honest_reply z t)) came) circuit carried) reads
-        (ap (λ z. read_on first.circuit.now z (Awaits ask t d.place) says) is_draw ∙ (ap (λ z. read_on z (draw_at d.seed) (Awaits ask t d.place) says) (sym circuit) ∙ is))
+        (ap (λ z. read_on first.circuit.now z (Awaits ask t d.place) says) is_draw ∙ (ap (λ z. read_on z (draw_from d.source) (Awaits ask t d.place) says) (sym circuit) ∙ is))
 
-    from : (r : TalkedOf) → IsLed y e asks ask t (read_on x.circuit.now (draw_at d.seed) (Awaits ask t d.place) says) (Ends r) → ArePrinted held_mid held_now (lines_of x (ask_spelling ask ∷ came ∷ [])) (Ends r)
-        → IsWay first draw alters (way ++ ask_spelling ask ∷ came ∷ []) held held_now r
-    from (Certified b) is ls = (to _ is, printed_more_lines first x held held_mid held_now way (ask_spelling ask ∷ came ∷ []) talk printed ls)
-    from (Failed failure) is ls = (to _ is, printed_more_lines first x held held_mid held_now way (ask_spelling ask ∷ came ∷ []) talk printed ls)
-    from Unprinted is ls = ((_, to _ refl), front_more_lines first x held held_mid held_now way (ask_spelling ask ∷ came ∷ []) talk printed ls)
+    from : (r : TalkedOf) → IsLed y e asks ask t (read_on x.circuit.now (draw_from d.source) (Awaits ask t d.place) says) (Ends r) → ArePrinted held_mid held_now (lines_of x (ask_spelling ask ∷ came ∷ [])) (Ends r)
+        → IsWorthIf x.circuit.now t (Ends r) says → IsWay first draw alters (way ++ ask_spelling ask ∷ came ∷ []) held held_now r
+    from (Certified b) is ls value = (
+      to _ is,
+      printed_more_lines first x held held_mid held_now way (ask_spelling ask ∷ came ∷ []) talk printed ls,
+      worth_on first.circuit.now draw alters first.hello (subst (λ z. (n : ℕ) → z n < modulus) (sym is_draw) (element_drawn d.source)) way ask t d.place came says b leads reads
+          (subst (λ z. IsWorthIf z t (Ends (Certified b)) says) circuit value),
+    )
+    from (Failed failure) is ls value = (to _ is, printed_more_lines first x held held_mid held_now way (ask_spelling ask ∷ came ∷ []) talk printed ls)
+    from Unprinted is ls value = ((_, to _ refl), front_more_lines first x held held_mid held_now way (ask_spelling ask ∷ came ∷ []) talk printed ls)
 
 -- Bye is sent
 pub parted : (first x : Conversation) (draw : ℕ → ℕ) (alters : Bool) (seen seen_mid seen_now : Option (List (List ℕ))) (held held_mid held_now : Option (List ℕ)) (way : List (List ℕ)) (answer : Bool) (result : TalkedOf)
     → x.talk ≡ first.talk → Shows seen seen_mid way → IsWay first draw alters way held held_mid (Certified answer) → Adds seen_mid seen_now (ask_spelling Bye)
     → IsParted held_mid held_now (lines_of x (ask_spelling Bye ∷ [])) answer result → (frames : List (List ℕ)) × Shows seen seen_now frames × IsTalk first draw alters frames held held_now result
-parted first x draw alters seen seen_mid seen_now held held_mid held_now way answer result talk shown (leads, printed) adds told =
+parted first x draw alters seen seen_mid seen_now held held_mid held_now way answer result talk shown (leads, printed, worth) adds told =
     (way ++ ask_spelling Bye ∷ [], shows_more seen seen_mid seen_now way (ask_spelling Bye ∷ []) shown (shows_one seen_mid seen_now (ask_spelling Bye) adds), from result told)
   where
     from : (r : TalkedOf) → IsParted held_mid held_now (lines_of x (ask_spelling Bye ∷ [])) answer r → IsTalk first draw alters (way ++ ask_spelling Bye ∷ []) held held_now r
     from (Certified b) (same, lines) = (
       (way, subst (λ z. Leads first.circuit.now draw alters (beginning first.hello) way (Ended (CertifiedEnd z))) (sym same) leads, refl),
       printed_more_lines first x held held_mid held_now way (ask_spelling Bye ∷ []) talk printed lines,
+      (way, refl, subst (λ z. IsWorthOn first.circuit.now draw alters first.hello way z) (sym same) worth),
     )
     from (Failed failure) lines = absurd lines
     from Unprinted lines = (

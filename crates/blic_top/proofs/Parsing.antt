@@ -1,13 +1,14 @@
 -- From what `clap` says of a parse to what the words ask for.
-use Rattle.std.proofs.Common.{◌≡◌, List, [], ◌∷◌, Option, None, refl, ap, ◌∙◌, Bool, true, false, ◌&&◌, codes, if◌then◌else◌, inl, inr}
-use Rattle.std.specs.Prelude.{option_map}
+use Rattle.std.proofs.Common.{arith, ℕ, ◌≤◌, ◌≡◌, List, [], ◌∷◌, Option, None, Some, refl, ap, subst, ◌∙◌, Bool, true, false, ◌&&◌, codes, if◌then◌else◌, inl, inr, map, string_bytes}
+use Rattle.std.specs.Prelude.{option_map, bytes_eq, String}
+use Rattle.std.specs.declared.alloc.Global.{Global}
 use Rattle.clap.specs.Words.{App, Row, Text, Kinds, HasKind, fault_of, first_of, first_value, matches_of, rows_of, found_of, is_simple_and_free, is_simple, HasMatchesOf, kind_of}
 use Rattle.clap.specs.declared.parser.matches.ArgMatches.{ArgMatches}
 use Rattle.clap.specs.declared.error.Error.{Error}
 use Rattle.clap.specs.declared.error.ErrorKind.{ErrorKind}
 use Rattle.clap.specs.declared.error.ErrorKind.TheVariants.{OutOfMemory}
 use Rattle.clap.proofs.WalkLemmas.{first_value-rows}
-use Rattle.blic_top.specs.Words.{Request, Solve, Certify, SolveWords, solve_command, solve_words_in, solve_words_of, number_or, CertifyWords, certify_command, certify_words_in, certify_words_of, seed_or_none, is_set, is_free_of_faults}
+use Rattle.blic_top.specs.Words.{Request, Solve, Certify, Exercise, SolveWords, solve_command, solve_words_in, solve_words_of, number_in, number_or, number_required, request_of, CertifyWords, certify_command, certify_words_in, certify_words_of, ExerciseWords, exercise_command, exercise_words_in, exercise_words_of, seed_or_none, is_set, is_free_of_faults}
 
 both_left : (a b : Bool) → (a && b) ≡ true → a ≡ true
 both_left true b both = refl
@@ -78,3 +79,65 @@ certify_given app words m file nodes pairs seed talk request is rows free is_fil
     (value_of m (matches_of app words) (codes "nodes") nodes rows is_nodes) (value_of m (matches_of app words) (codes "pairs") pairs rows is_pairs)
     (value_of m (matches_of app words) (codes "seed") seed rows is_seed) (value_of m (matches_of app words) (codes "talk") talk rows is_talk))
     ∙ ap (option_map Certify) (given certify_in app certify_command words is free)
+
+-- what the values of the number and of the option ask for
+abbrev exercise_of : Option Text → Option Text → Option ExerciseWords
+exercise_of pairs seed = exercise_words_of (number_required 1 500 pairs) (seed_or_none seed)
+
+abbrev exercise_in : List Row → Option ExerciseWords
+exercise_in rows = exercise_of (first_of (codes "N") rows) (first_of (codes "seed") rows)
+
+same_exercise : (pairs pairs' seed seed' : Option Text) → pairs ≡ pairs' → seed ≡ seed' → exercise_of pairs seed ≡ exercise_of pairs' seed'
+same_exercise pairs pairs' seed seed' p s = rw (p, s) refl
+
+-- a parse of the words of `exercise` that succeeds has what is asked for
+pub exercise_given : (app : App) (words : List Text) (m : ArgMatches) (pairs seed : Option Text) (request : Option Request) → app ≡ exercise_command
+    → rows_of (found_of m) ≡ matches_of app words → true ≡ is_free_of_faults (fault_of app words)
+    → pairs ≡ first_value (found_of m) (codes "N") → seed ≡ first_value (found_of m) (codes "seed")
+    → request ≡ option_map Exercise (exercise_of pairs seed) → request ≡ option_map Exercise (exercise_words_in exercise_command words)
+exercise_given app words m pairs seed request is rows free is_pairs is_seed is_request =
+    is_request
+    ∙ ap (option_map Exercise) (same_exercise _ _ _ _ (value_of m (matches_of app words) (codes "N") pairs rows is_pairs) (value_of m (matches_of app words) (codes "seed") seed rows is_seed))
+    ∙ ap (option_map Exercise) (given exercise_in app exercise_command words is free)
+
+-- ---- the number of `exercise` is in its range
+
+abbrev in_range : ExerciseWords → Type 0
+in_range w = (1 ≤ w.pairs) × (w.pairs ≤ 500)
+
+number_range : (text : Text) (n : ℕ) → number_in 1 500 text ≡ Some n → (1 ≤ n) × (n ≤ 500)
+number_range text n is = grind arith
+
+required_range : (text : Option Text) (n : ℕ) → number_required 1 500 text ≡ Some n → (1 ≤ n) × (n ≤ 500)
+required_range None n is = absurd cc
+required_range (Some text) n is = number_range text n is
+
+words_range : (text : Option Text) (pairs : Option ℕ) (seed : Option (Option (List ℕ))) (w : ExerciseWords) → number_required 1 500 text ≡ pairs → exercise_words_of pairs seed ≡ Some w → in_range w
+words_range text None seed w number is = absurd cc
+words_range text (Some n) None w number is = absurd cc
+words_range text (Some n) (Some None) w number is = let e : n ≡ w.pairs = cc in subst (λ k. (1 ≤ k) × (k ≤ 500)) e (required_range text n number)
+words_range text (Some n) (Some (Some s)) w number is = let e : n ≡ w.pairs = cc in subst (λ k. (1 ≤ k) × (k ≤ 500)) e (required_range text n number)
+
+-- what some words of one command ask for, if they ask for something
+picked : (a b c : Bool) (s : Option SolveWords) (t : Option CertifyWords) (e : Option ExerciseWords) (w : ExerciseWords)
+    → (if a then option_map Solve s else if b then option_map Certify t else if c then option_map Exercise e else None) ≡ Some (Exercise w) → e ≡ Some w
+picked true b c None t e w is = absurd cc
+picked true b c (Some s) t e w is = absurd cc
+picked false true c s None e w is = absurd cc
+picked false true c s (Some t) e w is = absurd cc
+picked false false true s t None w is = absurd cc
+picked false false true s t (Some e) w is = cc
+picked false false false s t e w is = absurd cc
+
+taken_range : (free : Bool) (text : Option Text) (seed : Option (Option (List ℕ))) (w : ExerciseWords)
+    → (if free then exercise_words_of (number_required 1 500 text) seed else None) ≡ Some w → in_range w
+taken_range true text seed w is = words_range text (number_required 1 500 text) seed w refl is
+taken_range false text seed w is = absurd cc
+
+pub pairs_in_range : (words : List (String Global)) (w : ExerciseWords) → request_of words ≡ Some (Exercise w) → in_range w
+pairs_in_range [] w is = absurd cc
+pairs_in_range (name ∷ words) w is =
+    let all = map string_bytes (name ∷ words) in
+    taken_range (is_free_of_faults (fault_of exercise_command all)) (first_of (codes "N") (matches_of exercise_command all)) (seed_or_none (first_of (codes "seed") (matches_of exercise_command all))) w
+    (picked (bytes_eq (string_bytes name) (codes "solve")) (bytes_eq (string_bytes name) (codes "certify")) (bytes_eq (string_bytes name) (codes "exercise"))
+    (solve_words_in solve_command all) (certify_words_in certify_command all) (exercise_words_in exercise_command all) w is)

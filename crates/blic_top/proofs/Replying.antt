@@ -1,5 +1,5 @@
 -- Honest replies as frames.
-use Rattle.std.proofs.Common.{arith, ℕ, suc, ◌≡◌, ◌+◌, ◌-◌, ◌*◌, ◌<◌, ◌≤◌, refl, sym, ◌∙◌, ap, subst, List, ◌++◌, length, get_or, take, drop, true}
+use Rattle.std.proofs.Common.{arith, ℕ, suc, ◌≡◌, ◌+◌, ◌-◌, ◌*◌, ◌<◌, ◌≤◌, refl, sym, ◌∙◌, ap, subst, Bool, List, ◌++◌, length, get_or, take, drop, true}
 use Rattle.std.specs.Prelude.{Option, Some, None}
 use Rattle.std.proofs.Math.Seq.{take-append_seam}
 use Rattle.std.proofs.lemmas.List.{length-append, length-drop}
@@ -27,9 +27,12 @@ use Rattle.blic_verifier.specs.Conversation.{Awaits, go_on, honest_reply, read_o
 use Rattle.blic_verifier.specs.Standing.{Verifying}
 use Rattle.blic_verifier.specs.Standing.{StandsFor as VerifierStandsFor}
 use Rattle.blic_verifier.specs.declared.next.Next.{Next}
-use Rattle.blic_verifier.specs.declared.next.Next.TheVariants.{Over}
-use Rattle.blic_draw.specs.Draws.{DrawsFrom}
+use Rattle.blic_verifier.specs.Accepting.{IsWorth as IsWorthFor}
+use Rattle.blic_verifier.specs.declared.next.Next.TheVariants.{Done, Over}
+use Rattle.blic_top.specs.DrawRun.{DrawsOf}
 use Rattle.blic_top.specs.declared.conversation.Exchanged.{Exchanged}
+use Rattle.blic_top.specs.declared.conversation.Exchanged.TheVariants.{Asks, Ends}
+use Rattle.blic_top.specs.declared.conversation.Talked.TheVariants.{Certified, Failed, Unprinted}
 use Rattle.blic_prover.specs.Honest.{Replied, honest}
 use Rattle.blic_prover.specs.Honest.{OutOfTurn as NoTurn, NothingLeft as NoneLeft, NotServed as OtherServed, Ended as IsOver}
 use Rattle.blic_prover.specs.Moves.{move_of, said_by}
@@ -39,7 +42,7 @@ use Rattle.blic_prover.specs.declared.step.Step.TheVariants.{Reply, OutOfTurn, N
 use Rattle.blic_field.specs.Quadratic.{Quadratic}
 use Rattle.blic_prover.specs.Standing.{Proving}
 use Rattle.blic_prover.specs.Standing.{StandsFor as ProverStandsFor}
-use Rattle.blic_top.specs.Talking.{HasRoom, IsAsked, IsFollowed, IsOpen, IsTaken, StandsNext}
+use Rattle.blic_top.specs.Talking.{HasRoom, IsAsked, IsFollowed, IsOpen, IsTaken, IsWorthIf, StandsNext}
 use Rattle.blic_top.proofs.Following.{honest_move, never_over}
 
 -- a reply for the frame: as the grammar has it, and with so many polynomials at most
@@ -162,7 +165,7 @@ read_said c draw ask t n (Values u w) none = refl
 read_said c draw ask t n (Refused r) none = absurd (none r refl)
 
 -- what follows on what the verifier said follows on what the frame says
-pub followed : (c : OrderedCircuit) (v w u : Verifying) (draw : ℕ → ℕ) (d : DrawsFrom) (place : ℕ) (frame : List ℕ) (says : Option Said) (next : Next) (result : Exchanged) → v.circuit ≡ c
+pub followed : (c : OrderedCircuit) (v w u : Verifying) (draw : ℕ → ℕ) (d : DrawsOf) (place : ℕ) (frame : List ℕ) (says : Option Said) (next : Next) (result : Exchanged) → v.circuit ≡ c
     → Reads frame says → IsTaken v w says (Some next) → ((r : Refusal) → frame ≡ reply_spelling (Refused r) → ⊥)
     → ((t : Talk) → (is_in_turn next ≡ true → VerifierStandsFor w t) → IsFollowed u d (go_on draw t place next) result)
     → (ask : Ask) (t : Talk) → VerifierStandsFor v t → IsFollowed u d (read_on c draw (Awaits ask t place) says) result
@@ -173,3 +176,13 @@ followed c v w u draw d place frame (Some s) next result same reads taken none f
     read_said c draw ask t place s (λ r e. none r (reads.1 ∙ ap reply_spelling e))
     ∙ ap (go_on draw (with_reply t s) place) (ap (λ z. next_after z.nodes (length z.order) t s) (sym same) ∙ sym after.0) in
     subst (λ p. IsFollowed u d p result) (sym is) (follows (with_reply t s) after.1)
+
+-- where the answer was accepted, the verifier said so of the frame, and what that is worth
+pub worth_if : (c : OrderedCircuit) (v w : Verifying) (says : Option Said) (next : Next) (result : Exchanged) (t : Talk) → v.circuit ≡ c → VerifierStandsFor v t → IsTaken v w says (Some next)
+    → ((b : Bool) → result ≡ Ends (Certified b) → next ≡ Done b) → IsWorthIf c t result says
+worth_if c v w says next (Asks ask) t same stands taken certified = tt
+worth_if c v w says next (Ends (Failed failure)) t same stands taken certified = tt
+worth_if c v w says next (Ends Unprinted) t same stands taken certified = tt
+worth_if c v w None next (Ends (Certified b)) t same stands taken certified = absurd taken
+worth_if c v w (Some s) next (Ends (Certified b)) t same stands taken certified =
+    subst (λ z. IsWorthFor z b (with_reply t s)) same ((taken.1 t stands).2 b (certified b refl))

@@ -1,5 +1,5 @@
 -- From what the calls below answer to what may be said.
-use Rattle.std.proofs.Common.{◌≡◌, ◌≢◌, ℕ, List, [], Option, Some, None, refl, sym, ◌∙◌, ap, inl, inr, subst, Bool, true, false, cond, take}
+use Rattle.std.proofs.Common.{◌≡◌, ◌≢◌, ℕ, List, [], Option, Some, None, refl, sym, inl, inr, subst, Bool, true, false, take}
 use Rattle.std.specs.Prelude.{IfSome, IsSomeAnd, IfOk, Result, Ok, Err}
 use Rattle.std.specs.Io.KnownBytes.{append_known}
 use Rattle.blic_basic.specs.Opening.{Opens}
@@ -10,17 +10,16 @@ use Rattle.blic_qdimacs.specs.Meaning.{meaning, Spells}
 use Rattle.blic_qdimacs.specs.Reading.{Reads}
 use Rattle.blic_qdimacs.specs.declared.error.ReadError.{ReadError}
 use Rattle.blic_qdimacs.specs.declared.error.ReadError.TheVariants as errors
-use Rattle.blic_top.specs.Words.{SolveWords, CertifyWords, Request, Solve, Certify}
+use Rattle.blic_top.specs.Words.{SolveWords, CertifyWords, Request, Solve, Certify, Exercise}
 use Rattle.blic_top.specs.World.{World, IsQuiet, IsSeed}
 use Rattle.blic_top.specs.OfFile.{IsFileOf, MayRefuse}
-use Rattle.blic_top.specs.Certifying.{CertifiesFormula, HasConversed, IsConversing}
-use Rattle.blic_top.specs.Means.{Means, SaysOfFormula}
-use Rattle.blic_top.specs.Ends.{Says, lines_before}
+use Rattle.blic_top.specs.Certifying.{Manner, CertifiesFormula, HasConversed, IsConversing, IsWorthTo, manner_of}
+use Rattle.blic_top.specs.Means.{Means, SaysOfFile, SaysOfFormula, talk_lines}
+use Rattle.blic_top.specs.Ends.{Says}
 use Rattle.blic_top.specs.Deciding.{Decides, DecidesOfFormula, ReadsFile, SolvesFile}
 use Rattle.blic_top.specs.Outcome.{text_of}
-use Rattle.blic_top.specs.Printing.{talk_text}
 use Rattle.blic_top.specs.declared.outcome.Outcome.{Outcome}
-use Rattle.blic_top.specs.declared.outcome.Outcome.TheVariants.{Usage, NotRead, TooManyClaims, TooManyPoints, TooManyPairs, TooManyNodes, EntropyFault, NoMemory, Solved, Certified as CertifiedOutcome, NotCertified}
+use Rattle.blic_top.specs.declared.outcome.Outcome.TheVariants.{Usage, NotRead, TooManyClaims, TooManyPoints, TooManyPairs, TooManyNodes, EntropyFault, NoMemory, Solved, Certified as CertifiedOutcome, NotCertified, Exercised}
 use Rattle.blic_verifier.specs.Conversation.{Ending}
 use Rattle.blic_top.proofs.Onward.{nothing_more, shows_none}
 use Rattle.blic_top.proofs.Printed.{front_after}
@@ -79,21 +78,27 @@ of_formula files w f NoMemory is_file says = (f, is_file, says)
 of_formula files w f (Solved t vars clauses) is_file says = (f, is_file, says)
 of_formula files w f (CertifiedOutcome t vars clauses draws bad) is_file says = absurd says
 of_formula files w f (NotCertified failure) is_file says = absurd says
+of_formula files w f (Exercised t vars clauses draws bad) is_file says = absurd says
 
 -- what solving a file may say may be said where nothing else was done
+solved_file : (world : World) (w : SolveWords) (frames : List (List ℕ)) (outcome : Outcome) → IsQuiet world frames → SolvesFile world.files w outcome
+    → SaysOfFile world w.file (λ f o. SaysOfFormula f w.limits o × IsQuiet world frames) frames outcome
+solved_file world w frames Usage quiet (f, is_file, says) = absurd says
+solved_file world w frames (NotRead error) quiet says = (says, quiet)
+solved_file world w frames (TooManyClaims k count) quiet (f, is_file, says) = (f, is_file, (says, quiet))
+solved_file world w frames (TooManyPoints count) quiet (f, is_file, says) = (f, is_file, (says, quiet))
+solved_file world w frames (TooManyPairs k) quiet (f, is_file, says) = (f, is_file, (says, quiet))
+solved_file world w frames (TooManyNodes k) quiet (f, is_file, says) = (f, is_file, (says, quiet))
+solved_file world w frames EntropyFault quiet (f, is_file, says) = absurd says
+solved_file world w frames NoMemory quiet says = quiet
+solved_file world w frames (Solved t vars clauses) quiet (f, is_file, says) = (f, is_file, (says, quiet))
+solved_file world w frames (CertifiedOutcome t vars clauses draws bad) quiet (f, is_file, says) = absurd says
+solved_file world w frames (NotCertified failure) quiet (f, is_file, says) = absurd says
+solved_file world w frames (Exercised t vars clauses draws bad) quiet (f, is_file, says) = absurd says
+
 pub solves_file : (world : World) (w : SolveWords) (frames : List (List ℕ)) (outcome : Outcome) → IsQuiet world frames → SolvesFile world.files w outcome
-    → Means (Some (Solve w)) world frames outcome
-solves_file world w frames Usage quiet (f, is_file, says) = absurd says
-solves_file world w frames (NotRead error) quiet says = (says, quiet)
-solves_file world w frames (TooManyClaims k count) quiet (f, is_file, says) = (f, is_file, (says, quiet))
-solves_file world w frames (TooManyPoints count) quiet (f, is_file, says) = (f, is_file, (says, quiet))
-solves_file world w frames (TooManyPairs k) quiet (f, is_file, says) = (f, is_file, (says, quiet))
-solves_file world w frames (TooManyNodes k) quiet (f, is_file, says) = (f, is_file, (says, quiet))
-solves_file world w frames EntropyFault quiet (f, is_file, says) = absurd says
-solves_file world w frames NoMemory quiet says = quiet
-solves_file world w frames (Solved t vars clauses) quiet (f, is_file, says) = (f, is_file, (says, quiet))
-solves_file world w frames (CertifiedOutcome t vars clauses draws bad) quiet (f, is_file, says) = absurd says
-solves_file world w frames (NotCertified failure) quiet (f, is_file, says) = absurd says
+    → Means (Some (Solve w)) world frames [] outcome
+solves_file world w frames outcome quiet says = (solved_file world w frames outcome quiet says, refl)
 
 -- ---- certifying
 
@@ -105,49 +110,57 @@ same_seed : (given : Option (List ℕ)) (world : World) (seed : List ℕ) → Is
 same_seed (Some g) world seed is = is
 same_seed None world seed is = is
 
-with_files : (f : PrenexFormula) (w : CertifyWords) (world : World) (frames : List (List ℕ)) (e : Ending) → HasConversed f w (unfiled world) frames e → HasConversed f w world frames e
-with_files f w world frames e (seed, is_seed, conversed) = (seed, same_seed w.seed world seed is_seed, conversed)
+with_files : (f : PrenexFormula) (m : Manner) (world : World) (frames : List (List ℕ)) (e : Ending) → HasConversed f m (unfiled world) frames e → HasConversed f m world frames e
+with_files f m world frames e (seed, is_seed, conversed) = (seed, same_seed m.seed world seed is_seed, conversed)
 
-still_conversing : (f : PrenexFormula) (w : CertifyWords) (world : World) (frames : List (List ℕ)) → IsConversing f w (unfiled world) frames → IsConversing f w world frames
-still_conversing f w world frames (can, (seed, is_seed, begun)) = (can, (seed, same_seed w.seed world seed is_seed, begun))
+worth_with_files : (f : PrenexFormula) (m : Manner) (world : World) (frames : List (List ℕ)) (answer : Bool) → IsWorthTo f m (unfiled world) frames answer → IsWorthTo f m world frames answer
+worth_with_files f m world frames answer (seed, is_seed, worth) = (seed, same_seed m.seed world seed is_seed, worth)
+
+still_conversing : (f : PrenexFormula) (m : Manner) (world : World) (frames : List (List ℕ)) → IsConversing f m (unfiled world) frames → IsConversing f m world frames
+still_conversing f m world frames (can, (seed, is_seed, begun)) = (can, (seed, same_seed m.seed world seed is_seed, begun))
 
 -- what certifying a formula may say may be said of its file
-certifies_file : (world : World) (w : CertifyWords) (f : PrenexFormula) (frames : List (List ℕ)) (outcome : Outcome) → IsFileOf f world.files w.file
-    → CertifiesFormula f w (unfiled world) frames outcome → Means (Some (Certify w)) world frames outcome
-certifies_file world w f frames Usage is_file says = absurd says
-certifies_file world w f frames (NotRead error) is_file says = absurd says
-certifies_file world w f frames (TooManyClaims k count) is_file says = (f, is_file, says)
-certifies_file world w f frames (TooManyPoints count) is_file says = (f, is_file, says)
-certifies_file world w f frames (TooManyPairs k) is_file says = (f, is_file, says)
-certifies_file world w f frames (TooManyNodes k) is_file says = (f, is_file, says)
-certifies_file world w f frames EntropyFault is_file says = (f, is_file, says)
-certifies_file world w f frames NoMemory is_file says = says
-certifies_file world w f frames (Solved t vars clauses) is_file says = absurd says
-certifies_file world w f frames (CertifiedOutcome t vars clauses draws bad) is_file (can, conversed, truly, same_vars, same_clauses, same_draws, same_bad) =
-    (f, is_file, (can, with_files f w world frames _ conversed, truly, same_vars, same_clauses, same_draws, same_bad))
-certifies_file world w f frames (NotCertified failure) is_file (can, conversed, rest) = (f, is_file, (can, with_files f w world frames _ conversed, rest))
+certifies_file : (world : World) (name : List ℕ) (m : Manner) (f : PrenexFormula) (frames : List (List ℕ)) (outcome : Outcome) → IsFileOf f world.files name
+    → CertifiesFormula f m (unfiled world) frames outcome → SaysOfFile world name (λ g o. CertifiesFormula g m world frames o) frames outcome
+certifies_file world name m f frames Usage is_file says = absurd says
+certifies_file world name m f frames (NotRead error) is_file says = absurd says
+certifies_file world name m f frames (TooManyClaims k count) is_file says = (f, is_file, says)
+certifies_file world name m f frames (TooManyPoints count) is_file says = (f, is_file, says)
+certifies_file world name m f frames (TooManyPairs k) is_file says = (f, is_file, says)
+certifies_file world name m f frames (TooManyNodes k) is_file says = (f, is_file, says)
+certifies_file world name m f frames EntropyFault is_file says = (f, is_file, says)
+certifies_file world name m f frames NoMemory is_file says = says
+certifies_file world name m f frames (Solved t vars clauses) is_file says = absurd says
+certifies_file world name m f frames (CertifiedOutcome t vars clauses draws bad) is_file (can, conversed, worth, truly, same_vars, same_clauses, same_draws, same_bad) =
+    (f, is_file, (can, with_files f m world frames _ conversed, worth_with_files f m world frames t worth, truly, same_vars, same_clauses, same_draws, same_bad))
+certifies_file world name m f frames (NotCertified failure) is_file (can, conversed, rest) = (f, is_file, (can, with_files f m world frames _ conversed, rest))
+certifies_file world name m f frames (Exercised t vars clauses draws bad) is_file says = absurd says
 
 -- what is decided of a formula is decided of its file
 pub decides_file : (world : World) (w : CertifyWords) (f : PrenexFormula) (old new : Option (List ℕ)) (result : Option Outcome) → IsFileOf f world.files w.file
-    → DecidesOfFormula f w (unfiled world) old new result → Decides (Some (Certify w)) world old new result
-decides_file world w f old new (Some outcome) is_file (frames, shown, says, printed) = (frames, shown, certifies_file world w f frames outcome is_file says, printed)
-decides_file world w f old new None is_file (frames, shown, conversing, n, front) = (frames, shown, (f, is_file, still_conversing f w world frames conversing), n, front)
-
-no_lines : (request : Option Request) → lines_before request [] ≡ []
-no_lines None = refl
-no_lines (Some (Solve w)) = refl
-no_lines (Some (Certify w)) = no_talk w.talk
-  where
-    no_talk : (b : Bool) → cond b (talk_text []) [] ≡ []
-    no_talk true = refl
-    no_talk false = refl
+    → DecidesOfFormula f (manner_of w) (unfiled world) old new result → Decides (Some (Certify w)) world old new result
+decides_file world w f old new (Some outcome) is_file (frames, shown, says, printed) =
+    (frames, shown, talk_lines w.talk frames, (certifies_file world w.file (manner_of w) f frames outcome is_file says, refl), printed)
+decides_file world w f old new None is_file (frames, shown, conversing, n, front) =
+    (frames, shown, talk_lines w.talk frames, ((f, is_file, still_conversing f (manner_of w) world frames conversing), refl), n, front)
 
 -- what may be said where nothing was done is decided
 pub decides_quietly : (request : Option Request) (files : Option (List ℕ → Option (List ℕ))) (seeds : Option (ℕ → Option (List ℕ))) (alters : Bool) (seen : Option (List (List ℕ)))
     (held : Option (List ℕ)) (outcome : Outcome)
-    → Means request (record { files = files; seeds = seeds; seeds_after = seeds; alters = alters; seen = seen; seen_after = seen }) [] outcome
+    → Means request (record { files = files; seeds = seeds; seeds_after = seeds; alters = alters; seen = seen; seen_after = seen }) [] [] outcome
     → Decides request (record { files = files; seeds = seeds; seeds_after = seeds; alters = alters; seen = seen; seen_after = seen }) held held (Some outcome)
-decides_quietly request files seeds alters seen held outcome means = ([], shows_none seen, means, nothing_more held ∙ ap (append_known held) (sym (no_lines request)))
+decides_quietly request files seeds alters seen held outcome means = ([], shows_none seen, [], means, nothing_more held)
+
+no_talk : (talk : Bool) → talk_lines talk [] ≡ []
+no_talk true = refl
+no_talk false = refl
+
+-- a file that isn't read has no lines before its refusal
+pub refused_quietly : (w : CertifyWords) (files : Option (List ℕ → Option (List ℕ))) (seeds : Option (ℕ → Option (List ℕ))) (alters : Bool) (seen : Option (List (List ℕ)))
+    (held : Option (List ℕ)) (error : ReadError) → MayRefuse files w.file error
+    → Decides (Some (Certify w)) (record { files = files; seeds = seeds; seeds_after = seeds; alters = alters; seen = seen; seen_after = seen }) held held (Some (NotRead error))
+refused_quietly w files seeds alters seen held error may =
+    decides_quietly (Some (Certify w)) files seeds alters seen held (NotRead error) ((may, (refl, refl)), sym (no_talk w.talk))
 
 -- what is decided for what is asked is decided for the words that ask for it
 pub as_asked : (asked request : Option Request) (world : World) (old new : Option (List ℕ)) (result : Option Outcome) → asked ≡ request → Decides asked world old new result
@@ -155,15 +168,16 @@ pub as_asked : (asked request : Option Request) (world : World) (old new : Optio
 as_asked asked request world old new result same decides = subst (λ (r : Option Request). Decides r world old new result) same decides
 
 -- want of memory may always be said
-pub no_memory : (request : Option Request) (world : World) (frames : List (List ℕ)) → IsQuiet world frames → Means request world frames NoMemory
-no_memory None world frames quiet = quiet
-no_memory (Some (Solve w)) world frames quiet = quiet
-no_memory (Some (Certify w)) world frames quiet = quiet
+pub no_memory : (request : Option Request) (world : World) → IsQuiet world [] → Means request world [] [] NoMemory
+no_memory None world quiet = (quiet, refl)
+no_memory (Some (Solve w)) world quiet = (quiet, refl)
+no_memory (Some (Certify w)) world quiet = (quiet, sym (no_talk w.talk))
+no_memory (Some (Exercise w)) world quiet = inl (refl, quiet, refl)
 
 -- ---- telling
 
 -- what was decided is told, where a front of its text was printed
 pub says_front : (request : Option Request) (world : World) (old mid new : Option (List ℕ)) (outcome : Outcome) → Decides request world old mid (Some outcome)
     → (n : ℕ) × (new ≡ append_known mid (take n (text_of outcome))) → Says request world 4 old new
-says_front request world old mid new outcome (frames, shown, means, before) printed =
-    (frames, shown, inl (outcome, means, inr (refl, front_after old mid new (lines_before request frames) (text_of outcome) before printed)))
+says_front request world old mid new outcome (frames, shown, lines, means, before) printed =
+    (frames, shown, lines, inl (outcome, means, inr (refl, front_after old mid new lines (text_of outcome) before printed)))

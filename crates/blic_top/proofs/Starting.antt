@@ -1,6 +1,6 @@
 -- A conversation before its first ask.
 use Rattle.std.proofs.Common.{◌≡◌, refl, sym, []}
-use Rattle.blic_draw.specs.Draws.{DrawsFrom}
+use Rattle.blic_top.specs.DrawRun.{DrawsOf}
 use Rattle.blic_model.specs.Circuit.{OrderedCircuit}
 use Rattle.blic_messages.specs.declared.ask.Hello.{Hello as HelloOf}
 use Rattle.blic_messages.specs.declared.ask.Ask.TheVariants.{Hello}
@@ -15,5 +15,5 @@ unfolding progress
 nothing_asked c h = refl
 
 -- Hello stands next
-pub at_start : (p : Proving) (h : HelloOf) (d : DrawsFrom) → ProverStandsFor p [] → p.served ≡ h → d.place ≡ 0 → IsAsked p [] (Hello h) Silent d.place
+pub at_start : (p : Proving) (h : HelloOf) (d : DrawsOf) → ProverStandsFor p [] → p.served ≡ h → d.place ≡ 0 → IsAsked p [] (Hello h) Silent d.place
 at_start p h d silent served place = record { stands = silent; next = (sym served, nothing_asked p.circuit p.served); left = place }

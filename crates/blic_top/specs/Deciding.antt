@@ -1,43 +1,54 @@
 -- What there is to say once the lines before it are printed, as private contracts speak of it.
-use Rattle.std.specs.Prelude.{◌≡◌, ℕ, List, [], cond, take, Option, Some, None, Result, Ok, Err}
+use Rattle.std.specs.Prelude.{◌≡◌, ℕ, List, take, Option, Some, None, Result, Ok, Err}
 use Rattle.std.specs.Io.KnownBytes.{append_known}
 use Rattle.blic_basic.specs.Outside.{Rose}
 use Rattle.blic_basic.specs.Seeding.{Seeds}
 use Rattle.blic_basic.specs.declared.entropy.Seeded.TheVariants as seeded
 use Rattle.blic_model.specs.Formula.{PrenexFormula}
 use Rattle.blic_qdimacs.specs.declared.error.ReadError.{ReadError}
-use Rattle.blic_top.specs.Words.{CertifyWords, Request, SolveWords}
+use Rattle.blic_top.specs.Words.{Request, SolveWords}
 use Rattle.blic_top.specs.World.{World, IsShown}
 use Rattle.blic_top.specs.OfFile.{IsFileOf, MayRefuse}
-use Rattle.blic_top.specs.Certifying.{CertifiesFormula, IsConversing}
-use Rattle.blic_top.specs.Means.{Means, IsUnderWay, SaysOfFormula}
-use Rattle.blic_top.specs.Ends.{lines_before, OutcomeCounts}
-use Rattle.blic_top.specs.Printing.{talk_text}
+use Rattle.blic_top.specs.Certifying.{Manner, CertifiesFormula, IsConversing}
+use Rattle.blic_top.specs.Exercising.{SaysOfOne}
+use Rattle.blic_top.specs.Means.{Means, IsUnderWay, SaysOfFormula, talk_lines}
+use Rattle.blic_top.specs.Ends.{OutcomeCounts}
 use Rattle.blic_top.specs.declared.outcome.Outcome.{Outcome}
-use Rattle.blic_top.specs.declared.outcome.Outcome.TheVariants.{NotRead}
+use Rattle.blic_top.specs.declared.outcome.Outcome.TheVariants.{NotRead, Certified, Exercised}
 
 -- what reading a file answers
 abbrev pub ReadsFile : Option (List ℕ → Option (List ℕ)) → List ℕ → Result PrenexFormula ReadError → Type 0
 ReadsFile files name (Ok f) = IsFileOf f files name
 ReadsFile files name (Err error) = MayRefuse files name error
 
--- the lines of a conversation, where they are to be printed
-abbrev pub talk_lines : CertifyWords → List (List ℕ) → List ℕ
-talk_lines w frames = cond w.talk (talk_text frames) []
-
 -- of a formula: an outcome that may come, with the lines of the frames printed before it; or a conversation under way, with a front of them
-abbrev pub DecidesOfFormula : PrenexFormula → CertifyWords → World → Option (List ℕ) → Option (List ℕ) → Option Outcome → Type 0
-DecidesOfFormula f w world old new (Some outcome) =
-    (frames : List (List ℕ)) × IsShown world frames × CertifiesFormula f w world frames outcome × (new ≡ append_known old (talk_lines w frames))
-DecidesOfFormula f w world old new None =
-    (frames : List (List ℕ)) × IsShown world frames × IsConversing f w world frames × (n : ℕ) × (new ≡ append_known old (take n (talk_lines w frames)))
+abbrev pub DecidesOfFormula : PrenexFormula → Manner → World → Option (List ℕ) → Option (List ℕ) → Option Outcome → Type 0
+DecidesOfFormula f m world old new (Some outcome) =
+    (frames : List (List ℕ)) × IsShown world frames × CertifiesFormula f m world frames outcome × (new ≡ append_known old (talk_lines m.talk frames))
+DecidesOfFormula f m world old new None =
+    (frames : List (List ℕ)) × IsShown world frames × IsConversing f m world frames × (n : ℕ) × (new ≡ append_known old (take n (talk_lines m.talk frames)))
 
--- of all words: the same
+-- what certifying a formula said, as it is said of one of an exercise
+abbrev pub of_one : Outcome → Outcome
+of_one (Certified answer vars clauses draws bad) = Exercised answer vars clauses draws bad
+of_one outcome = outcome
+
+-- the number of draws in the line of one of an exercise
+abbrev pub exercised_draws : Outcome → Option ℕ
+exercised_draws (Exercised answer vars clauses draws bad) = Some draws
+exercised_draws outcome = None
+
+-- of a formula of an exercise: the same, with nothing printed
+abbrev pub DecidesOfOne : PrenexFormula → Manner → World → Option (List ℕ) → Option (List ℕ) → Option Outcome → Type 0
+DecidesOfOne f m world old new (Some outcome) = (frames : List (List ℕ)) × IsShown world frames × SaysOfOne f m world frames outcome × (new ≡ old)
+DecidesOfOne f m world old new None = (frames : List (List ℕ)) × IsShown world frames × IsConversing f m world frames × (new ≡ old)
+
+-- of all words: an outcome that may come, with the lines before it printed; or a conversation under way, with a front of them
 abbrev pub Decides : Option Request → World → Option (List ℕ) → Option (List ℕ) → Option Outcome → Type 0
 Decides request world old new (Some outcome) =
-    (frames : List (List ℕ)) × IsShown world frames × Means request world frames outcome × (new ≡ append_known old (lines_before request frames))
+    (frames : List (List ℕ)) × IsShown world frames × (lines : List ℕ) × Means request world frames lines outcome × (new ≡ append_known old lines)
 Decides request world old new None =
-    (frames : List (List ℕ)) × IsShown world frames × IsUnderWay request world frames × (n : ℕ) × (new ≡ append_known old (take n (lines_before request frames)))
+    (frames : List (List ℕ)) × IsShown world frames × (lines : List ℕ) × IsUnderWay request world frames lines × (n : ℕ) × (new ≡ append_known old (take n lines))
 
 -- the causes of faults: those of the files, of the entropy and of the output
 abbrev pub DecideCounts : ℕ → ℕ → ℕ → ℕ → ℕ → ℕ → Option Outcome → Type 0

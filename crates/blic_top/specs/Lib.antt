@@ -2,7 +2,9 @@ pub mod Asked
 pub mod Assigned
 pub mod Certifying
 pub mod Deciding
+pub mod DrawRun
 pub mod Ends
+pub mod Exercising
 pub mod Means
 pub mod OfFile
 pub mod Outcome
@@ -11,3 +13,4 @@ pub mod Talking
 pub mod Wire
 pub mod Words
 pub mod World
+pub mod Worth

@@ -7,7 +7,7 @@ use Rattle.blic_verifier.specs.declared.place.Part.TheVariants.{Poly, Ends, Comb
 use Rattle.blic_top.specs.declared.outcome.Failure.{Failure}
 use Rattle.blic_top.specs.declared.outcome.Failure.TheVariants.{Rejected, WrongKind, WrongCount, NotFrame}
 use Rattle.blic_top.specs.declared.outcome.Outcome.{Outcome}
-use Rattle.blic_top.specs.declared.outcome.Outcome.TheVariants.{Usage, NotRead, TooManyClaims, TooManyPoints, TooManyPairs, TooManyNodes, EntropyFault, NoMemory, Solved, Certified, NotCertified}
+use Rattle.blic_top.specs.declared.outcome.Outcome.TheVariants.{Usage, NotRead, TooManyClaims, TooManyPoints, TooManyPairs, TooManyNodes, EntropyFault, NoMemory, Solved, Certified, NotCertified, Exercised}
 
 -- 3 for a fault, 9 for want of memory, 2 for a refused file
 abbrev pub read_status : ReadError → ℕ
@@ -34,6 +34,7 @@ status_of NoMemory = 9
 status_of (Solved truth vars clauses) = cond truth 10 20
 status_of (Certified truth vars clauses draws bad) = cond truth 10 20
 status_of (NotCertified failure) = failure_status failure
+status_of (Exercised answer vars clauses draws bad) = 0
 
 -- each line ends with LF
 abbrev pub line_end : List ℕ
@@ -92,3 +93,6 @@ text_of (Solved truth vars clauses) = answer_text truth vars clauses
 text_of (Certified truth vars clauses draws bad) =
     answer_text truth vars clauses ++ codes "runs 1" ++ line_end ++ codes "draws " ++ decimal draws ++ line_end ++ codes "bad " ++ decimal bad ++ line_end
 text_of (NotCertified failure) = failure_text failure
+text_of (Exercised answer vars clauses draws bad) =
+    cond answer (codes "true") (codes "false") ++ codes " vars " ++ decimal vars ++ codes " clauses " ++ decimal clauses
+    ++ codes " draws " ++ decimal draws ++ codes " bad " ++ decimal bad ++ line_end

@@ -3,7 +3,7 @@ use Rattle.std.specs.Prelude.{◌≡◌, ℕ, suc, ◌+◌, ◌*◌, ◌<◌, �
 use Rattle.std.specs.Io.KnownBytes.{append_known}
 use Rattle.blic_field.specs.Field.{modulus}
 use Rattle.blic_basic.specs.Outside.{Rose}
-use Rattle.blic_draw.specs.Draws.{DrawsFrom, draw_at}
+use Rattle.blic_top.specs.DrawRun.{DrawsOf, draw_from}
 use Rattle.blic_model.specs.Circuit.{OrderedCircuit}
 use Rattle.blic_claims.specs.Places.{HasMostClaims}
 use Rattle.blic_claims.specs.Turns.{turns, wants_draw_after}
@@ -18,7 +18,9 @@ use Rattle.blic_prover.specs.Standing.{Proving}
 use Rattle.blic_prover.specs.Standing.{StandsFor as ProverStandsFor}
 use Rattle.blic_verifier.specs.Verdict.{Talk, Silent, Talked, is_verdict, is_in_turn, next_after, with_reply}
 use Rattle.blic_verifier.specs.Fitted.{is_draw}
+use Rattle.blic_verifier.specs.Accepting.{IsWorth as IsWorthFor}
 use Rattle.blic_verifier.specs.declared.next.Next.{Next}
+use Rattle.blic_verifier.specs.declared.next.Next.TheVariants.{Done}
 use Rattle.blic_verifier.specs.declared.stage.Stage.{Stage}
 use Rattle.blic_verifier.specs.Standing.{Verifying, is_over, wants_draw}
 use Rattle.blic_verifier.specs.Standing.{StandsFor as VerifierStandsFor}
@@ -26,6 +28,7 @@ use Rattle.blic_verifier.specs.Conversation.{Position, Awaits, Ended, beginning,
 use Rattle.blic_verifier.specs.Conversation.{Certified as CertifiedEnd}
 use Rattle.blic_top.specs.Wire.{IsCarried, Leads, IsConversation, IsBegun}
 use Rattle.blic_top.specs.World.{Shows}
+use Rattle.blic_top.specs.Worth.{IsWorth, IsWorthOn}
 use Rattle.blic_top.specs.Certifying.{ending_of}
 use Rattle.blic_top.specs.Printing.{talk_text}
 use Rattle.blic_top.specs.declared.conversation.Conversation.{Conversation}
@@ -79,12 +82,21 @@ IsTaken old new None None = new ≡ old
 IsTaken old new (Some said) (Some next) =
     IsSaidOf next new.stage
     × ((t : Talk) → VerifierStandsFor old t → (next ≡ next_after old.circuit.nodes (length old.circuit.order) t said)
-    × (is_in_turn next ≡ true → VerifierStandsFor new (with_reply t said)))
+    × (is_in_turn next ≡ true → VerifierStandsFor new (with_reply t said))
+    × ((b : Bool) → next ≡ Done b → IsWorthFor old.circuit b (with_reply t said)))
 IsTaken old new None (Some next) = ⊥
 IsTaken old new (Some said) None = ⊥
 
+-- where the answer was accepted, what that is worth
+abbrev pub IsWorthIf : OrderedCircuit → Talk → Exchanged → Option Said → Type 0
+IsWorthIf c t (Asks next) says = Unit {0}
+IsWorthIf c t (Ends (Failed failure)) says = Unit {0}
+IsWorthIf c t (Ends Unprinted) says = Unit {0}
+IsWorthIf c t (Ends (Certified b)) None = ⊥
+IsWorthIf c t (Ends (Certified b)) (Some said) = IsWorthFor c b (with_reply t said)
+
 -- the verifier and the draws stand at a position that goes on with an ask; or the conversation has ended
-abbrev pub IsFollowed : Verifying → DrawsFrom → Position → Exchanged → Type 0
+abbrev pub IsFollowed : Verifying → DrawsOf → Position → Exchanged → Type 0
 IsFollowed v d p (Asks ask) =
     (t : Talk) × (p ≡ Awaits ask t d.place) × VerifierStandsFor v t × (is_over v.stage ≡ false) × (wants_draw v.stage ≡ false)
 IsFollowed v d p (Ends (Certified b)) = p ≡ Ended (CertifiedEnd b)
@@ -105,7 +117,7 @@ abbrev pub IsSame : Conversation → Conversation → Type 0
 IsSame x y = (y.circuit.now ≡ x.circuit.now) × (y.hello ≡ x.hello) × (y.talk ≡ x.talk)
 
 -- its prover and its verifier stand where this ask is next, after this talk
-pub record IsAt (x : Conversation) (d : DrawsFrom) (asks : List Ask) (ask : Ask) (t : Talk) : Type 0 where
+pub record IsAt (x : Conversation) (d : DrawsOf) (asks : List Ask) (ask : Ask) (t : Talk) : Type 0 where
   pub asked : IsAsked x.prover asks ask t d.place
   pub talked : VerifierStandsFor x.verifier t
   pub going : (is_over x.verifier.stage ≡ false) × (wants_draw x.verifier.stage ≡ false)
@@ -115,7 +127,7 @@ abbrev pub lines_of : Conversation → List (List ℕ) → List ℕ
 lines_of x frames = cond x.talk (talk_text frames) []
 
 -- an ask and its reply lead to this position
-abbrev pub IsLed : Conversation → DrawsFrom → List Ask → Ask → Talk → Position → Exchanged → Type 0
+abbrev pub IsLed : Conversation → DrawsOf → List Ask → Ask → Talk → Position → Exchanged → Type 0
 IsLed x d asks ask t p (Asks next) = (u : Talk) × (p ≡ Awaits next u d.place) × IsAt x d (asks ++ ask ∷ []) next u × (replies_in u ≡ suc (replies_in t))
 IsLed x d asks ask t p (Ends (Certified b)) = p ≡ Ended (CertifiedEnd b)
 IsLed x d asks ask t p (Ends (Failed failure)) = p ≡ Ended (ending_of failure)
@@ -141,21 +153,24 @@ TalkCounts before now (Failed failure) = now ≡ before
 TalkCounts before now Unprinted = Rose before now
 
 -- the reply came as the watch left it, and what it says leads on
-abbrev pub HasCome : Conversation → Conversation → DrawsFrom → DrawsFrom → Bool → List Ask → Ask → Talk → List ℕ → Exchanged → Type 0
+abbrev pub HasCome : Conversation → Conversation → DrawsOf → DrawsOf → Bool → List Ask → Ask → Talk → List ℕ → Exchanged → Type 0
 HasCome old x before d alters asks ask t frame result =
     IsCarried alters (reply_spelling (honest_reply old.circuit.now t)) frame
-    × ((says : Option Said) × Reads frame says × IsLed x d asks ask t (read_on old.circuit.now (draw_at before.seed) (Awaits ask t before.place) says) result)
+    × ((says : Option Said) × Reads frame says × IsLed x d asks ask t (read_on old.circuit.now (draw_from before.source) (Awaits ask t before.place) says) result
+    × IsWorthIf old.circuit.now t result says)
 
 -- the way of a conversation up to its end, or up to where a line could not be printed
 abbrev pub IsWay : Conversation → (ℕ → ℕ) → Bool → List (List ℕ) → Option (List ℕ) → Option (List ℕ) → TalkedOf → Type 0
-IsWay x draw alters way old new (Certified b) = Leads x.circuit.now draw alters (beginning x.hello) way (Ended (CertifiedEnd b)) × (new ≡ append_known old (lines_of x way))
+IsWay x draw alters way old new (Certified b) =
+    Leads x.circuit.now draw alters (beginning x.hello) way (Ended (CertifiedEnd b)) × (new ≡ append_known old (lines_of x way)) × IsWorthOn x.circuit.now draw alters x.hello way b
 IsWay x draw alters way old new (Failed failure) = Leads x.circuit.now draw alters (beginning x.hello) way (Ended (ending_of failure)) × (new ≡ append_known old (lines_of x way))
 IsWay x draw alters way old new Unprinted =
     ((p : Position) × Leads x.circuit.now draw alters (beginning x.hello) way p) × ((n : ℕ) × (new ≡ append_known old (take n (lines_of x way))))
 
 -- the frames of a whole conversation, or of one that is under way
 abbrev pub IsTalk : Conversation → (ℕ → ℕ) → Bool → List (List ℕ) → Option (List ℕ) → Option (List ℕ) → TalkedOf → Type 0
-IsTalk x draw alters frames old new (Certified b) = IsConversation x.circuit.now draw alters x.hello frames (CertifiedEnd b) × (new ≡ append_known old (lines_of x frames))
+IsTalk x draw alters frames old new (Certified b) =
+    IsConversation x.circuit.now draw alters x.hello frames (CertifiedEnd b) × (new ≡ append_known old (lines_of x frames)) × IsWorth x.circuit.now draw alters x.hello frames b
 IsTalk x draw alters frames old new (Failed failure) = IsConversation x.circuit.now draw alters x.hello frames (ending_of failure) × (new ≡ append_known old (lines_of x frames))
 IsTalk x draw alters frames old new Unprinted = IsBegun x.circuit.now draw alters x.hello frames × ((n : ℕ) × (new ≡ append_known old (take n (lines_of x frames))))
 
@@ -166,7 +181,7 @@ IsParted old new line answer (Failed failure) = ⊥
 IsParted old new line answer Unprinted = (n : ℕ) × (new ≡ append_known old (take n line))
 
 -- the way so far, from the first ask to the one that stands next; so many replies have come on it
-abbrev pub IsOnWay : Conversation → (ℕ → ℕ) → Bool → Conversation → DrawsFrom → Ask → Option (List (List ℕ)) → Option (List (List ℕ)) → Option (List ℕ) → Option (List ℕ) → ℕ → Type 0
+abbrev pub IsOnWay : Conversation → (ℕ → ℕ) → Bool → Conversation → DrawsOf → Ask → Option (List (List ℕ)) → Option (List (List ℕ)) → Option (List ℕ) → Option (List ℕ) → ℕ → Type 0
 IsOnWay first draw alters x d ask seen seen_now held held_now count =
     (asks : List Ask) × (t : Talk) × (way : List (List ℕ)) × IsAt x d asks ask t × Leads first.circuit.now draw alters (beginning first.hello) way (Awaits ask t d.place)
     × Shows seen seen_now way × (held_now ≡ append_known held (lines_of first way)) × (replies_in t ≡ count)

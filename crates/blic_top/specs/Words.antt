@@ -1,5 +1,5 @@
 -- Which words fit: the first one names a command, the command takes the words, and its values are in their ranges.
-use Rattle.std.specs.Prelude.{ℕ, ◌+◌, ◌*◌, ◌-◌, Bool, true, false, ◌&&◌, nat_le, if◌then◌else◌, List, [], ◌∷◌, length, fold, codes, string_bytes, bytes_eq, map, String, Option, Some, None, option_map, Result, Ok, Err}
+use Rattle.std.specs.Prelude.{ℕ, ◌+◌, ◌*◌, ◌-◌, Bool, true, false, ◌&&◌, nat_le, if◌then◌else◌, List, [], ◌∷◌, length, fold, replicate, codes, string_bytes, bytes_eq, map, String, Option, Some, None, option_map, Result, Ok, Err}
 use Rattle.std.specs.List.{list_all}
 use Rattle.std.specs.declared.alloc.Global.{Global}
 use Rattle.clap.specs.Words.{App, Rule, Text, Kinds, new_app, new_rule, with_rule, fault_of, first_of, matches_of}
@@ -112,10 +112,39 @@ certify_words_in command words =
     (seed_or_none (first_of (codes "seed") given)) (is_set (first_of (codes "talk") given))
     else None
 
+-- exercise N --seed HEX
+abbrev pub exercise_command : App
+exercise_command = with_rule (with_rule (new_app (codes "exercise")) (required_word (codes "N"))) (option_word (codes "seed"))
+
+-- what the words of `exercise` ask for: how many pairs of variables the formulas have, and a seed
+pub record ExerciseWords : Type 0 where
+  pub pairs : ℕ
+  pub seed : List ℕ
+
+-- the number of a word that has to stand there
+abbrev pub number_required : ℕ → ℕ → Option Text → Option ℕ
+number_required low high None = None
+number_required low high (Some text) = number_in low high text
+
+-- the seed is one of 32 zeros where none is given
+abbrev pub exercise_words_of : Option ℕ → Option (Option (List ℕ)) → Option ExerciseWords
+exercise_words_of (Some pairs) (Some (Some seed)) = Some (record { pairs = pairs; seed = seed })
+exercise_words_of (Some pairs) (Some None) = Some (record { pairs = pairs; seed = replicate 32 0 })
+exercise_words_of _ _ = None
+
+-- N is from 1 to 500
+abbrev pub exercise_words_in : App → List Text → Option ExerciseWords
+exercise_words_in command words =
+    let given = matches_of command words in
+    if is_free_of_faults (fault_of command words)
+    then exercise_words_of (number_required 1 500 (first_of (codes "N") given)) (seed_or_none (first_of (codes "seed") given))
+    else None
+
 -- what the words ask for
 pub data Request : Type 0 where
   Solve : SolveWords → Request
   Certify : CertifyWords → Request
+  Exercise : ExerciseWords → Request
 
 -- the first word names the command; no other words fit
 abbrev pub request_of : List (String Global) → Option Request
@@ -123,4 +152,5 @@ request_of [] = None
 request_of (name ∷ words) =
     if bytes_eq (string_bytes name) (codes "solve") then option_map Solve (solve_words_in solve_command (map string_bytes (name ∷ words)))
     else if bytes_eq (string_bytes name) (codes "certify") then option_map Certify (certify_words_in certify_command (map string_bytes (name ∷ words)))
+    else if bytes_eq (string_bytes name) (codes "exercise") then option_map Exercise (exercise_words_in exercise_command (map string_bytes (name ∷ words)))
     else None

@@ -1,6 +1,6 @@
 // The truth of a formula, value by value.
 
-ghost use Rattle.std.specs.Prelude.{◌≡◌, ◌≤◌, ◌<◌, ◌+◌, ℕ, List, length, IfOk, true, false};
+ghost use Rattle.std.specs.Prelude.{◌≡◌, ◌≤◌, ◌<◌, length, Ok, true, false};
 ghost use Rattle.blic_model.specs.Truth.{truth, truth_under, matrix_holds, clause_holds, literal_holds};
 ghost use Rattle.blic_top.specs.Assigned.{values_of};
 
@@ -86,7 +86,7 @@ fn holds(formula: &Formula, bounds: &[Bound], assignment: &Assignment<'_>) -> bo
 /// It takes no memory, and time that may double with each entry of the prefix.
 pub fn by_cases(_alloc: Global, formula: &Formula) -> Result<bool, NoMem>
     requires { length formula.now.prefix ≤ 20 }
-    ensures { IfOk result (λ answer. answer ≡ truth formula.now) }
+    ensures { result ≡ Ok (truth formula.now) }
 {
     Ok(holds(formula, formula.prefix(), &Assignment::Nothing))
 }

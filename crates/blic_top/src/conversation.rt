@@ -1,7 +1,7 @@
 // Prover and verifier in one process: each frame that a link would carry is made, shown to a watch and judged.
-ghost use Rattle.std.specs.Prelude.{◌≡◌, ◌≢◌, ◌≤◌, ◌+◌, ◌*◌, ◌<◌, ◌^◌, ◌∷◌, ◌++◌, [], ℕ, List, Option, length, take, true, false, cond, IfOk, slice_index};
+ghost use Rattle.std.specs.Prelude.{◌≡◌, ◌≢◌, ◌≤◌, ◌+◌, ◌*◌, ◌<◌, ◌^◌, ◌∷◌, ◌++◌, [], ℕ, Bool, List, Option, length, take, true, false, IfOk, slice_index};
 ghost use Rattle.blic_basic.specs.Watching.{Adds};
-ghost use Rattle.blic_draw.specs.Draws.{DrawsFrom, draw_at};
+ghost use Rattle.blic_top.specs.DrawRun.{DrawsOf, draw_from};
 ghost use Rattle.blic_claims.specs.Places.{layout_of};
 ghost use Rattle.blic_messages.specs.Frames.{ask_spelling, reply_spelling};
 ghost use Rattle.blic_messages.specs.Reading.{Reads};
@@ -14,15 +14,15 @@ ghost use Rattle.blic_verifier.specs.Verdict.{Talk, Silent, is_in_turn};
 ghost use Rattle.blic_verifier.specs.Standing.{StandsFor as VerifierStandsFor, is_over, wants_draw};
 ghost use Rattle.blic_verifier.specs.Conversation.{Awaits, go_on as goes_on, honest_reply, read_on};
 ghost use Rattle.blic_top.specs.Printing.{Prints, PrintCounts, talk_text};
-ghost use Rattle.blic_top.specs.Talking.{ArePrinted, ExchangeCounts, HasCome, HasRoom, IsAsked, IsAt, IsFitted, IsFollowed, IsParted, IsSaidOf, IsSame, IsTaken, IsTalk, IsWay, TalkCounts, lines_of};
+ghost use Rattle.blic_top.specs.Talking.{ArePrinted, ExchangeCounts, HasCome, HasRoom, IsAsked, IsAt, IsFitted, IsFollowed, IsParted, IsSaidOf, IsSame, IsTaken, IsTalk, IsWay, IsWorthIf, TalkCounts, lines_of};
 ghost use Rattle.blic_top.specs.Wire.{IsCarried};
 ghost use Rattle.blic_top.specs.World.{Shows};
 
+use crate::draw_run::DrawRun;
 use crate::outcome::Failure;
 use crate::printing::{WriteFault, print_frame};
 use blic_basic::{NoMem, Sink, Steps, Watch};
 use blic_claims::{Answers, Layout, claims_law};
-use blic_draw::Draws;
 use blic_field::Fe;
 use blic_messages::{Ask, Hello, decode_reply, encode_ask, encode_reply};
 use blic_model::Circuit;
@@ -79,7 +79,7 @@ impl<'c> Conversation<'c> {
         requires { layout.now ≡ layout_of circuit.now }
         ensures fitted { IfOk result (λ x. IsFitted x) }
         ensures same { IfOk result (λ x. (x.circuit.now ≡ circuit.now) × (x.hello ≡ hello) × (x.talk ≡ talk)) }
-        ensures silent { IfOk result (λ x. (d : DrawsFrom) → d.place ≡ 0 → IsAt x d [] (AskHello hello) Silent) }
+        ensures silent { IfOk result (λ x. (d : DrawsOf) → d.place ≡ 0 → IsAt x d [] (AskHello hello) Silent) }
     {
         let most = layout.most_claims(circuit) as usize;
         let room = LONGEST_ASK + 24 * most;
@@ -105,7 +105,7 @@ impl<'c> Conversation<'c> {
     pub(crate) fn hold<A: Answers, W: Watch, O: Sink, L: Ledger>(
         &mut self,
         answers: &mut A,
-        draws: &mut Draws,
+        draws: &mut DrawRun,
         watch: &mut W,
         out: &mut O,
         steps: &mut Steps<L>,
@@ -114,8 +114,9 @@ impl<'c> Conversation<'c> {
         requires answers { A.circuit answers.old ≡ self.old.circuit.now }
         requires draws { draws.old.place ≡ 0 }
         requires silent { IsAt self.old draws.old [] (AskHello self.old.hello) Silent }
+        ensures alters { W.alters watch.new ≡ W.alters watch.old }
         ensures talk { (frames : List (List ℕ)) × Shows (W.frames watch.old) (W.frames watch.new) frames
-            × IsTalk self.old (draw_at draws.old.seed) (W.alters watch.old) frames (O.held out.old) (O.held out.new) result }
+            × IsTalk self.old (draw_from draws.old.source) (W.alters watch.old) frames (O.held out.old) (O.held out.new) result }
         ensures cause { TalkCounts (O.faults out.old) (O.faults out.new) result }
     {
         match self.talk(answers, draws, watch, out, steps) {
@@ -128,7 +129,7 @@ impl<'c> Conversation<'c> {
     fn talk<A: Answers, W: Watch, O: Sink, L: Ledger>(
         &mut self,
         answers: &mut A,
-        draws: &mut Draws,
+        draws: &mut DrawRun,
         watch: &mut W,
         out: &mut O,
         steps: &mut Steps<L>,
@@ -141,7 +142,7 @@ impl<'c> Conversation<'c> {
         ensures same { IsSame self.old self.new }
         ensures alters { W.alters watch.new ≡ W.alters watch.old }
         ensures way { (way : List (List ℕ)) × Shows (W.frames watch.old) (W.frames watch.new) way
-            × IsWay self.old (draw_at draws.old.seed) (W.alters watch.old) way (O.held out.old) (O.held out.new) result }
+            × IsWay self.old (draw_from draws.old.source) (W.alters watch.old) way (O.held out.old) (O.held out.new) result }
         ensures cause { TalkCounts (O.faults out.old) (O.faults out.new) result }
     {
         let mut ask = Ask::Hello(self.hello);
@@ -160,7 +161,7 @@ impl<'c> Conversation<'c> {
         &mut self,
         ask: &Ask,
         answers: &mut A,
-        draws: &mut Draws,
+        draws: &mut DrawRun,
         watch: &mut W,
         out: &mut O,
         steps: &mut Steps<L>,
@@ -171,7 +172,7 @@ impl<'c> Conversation<'c> {
         ensures fitted { IsFitted self.new }
         ensures same { IsSame self.old self.new }
         ensures answers { A.circuit answers.new ≡ A.circuit answers.old }
-        ensures seed { draws.new.seed ≡ draws.old.seed }
+        ensures source { draws.new.source ≡ draws.old.source }
         ensures alters { W.alters watch.new ≡ W.alters watch.old }
         ensures exchanged { (asks : List AskOf) (t : Talk) → IsAt self.old draws.old asks ask.now t
             → (came : List ℕ) × Shows (W.frames watch.old) (W.frames watch.new) (ask_spelling ask.now ∷ came ∷ [])
@@ -226,7 +227,12 @@ impl<'c> Conversation<'c> {
     }
 
     // Judges the reply at the front of the buffer.
-    fn judge<L: Ledger>(&mut self, len: usize, draws: &mut Draws, steps: &mut Steps<L>) -> Exchanged
+    fn judge<L: Ledger>(
+        &mut self,
+        len: usize,
+        draws: &mut DrawRun,
+        steps: &mut Steps<L>,
+    ) -> Exchanged
         requires fitted { IsFitted self.old }
         requires length { len + 15 ≤ length self.old.frame.items }
         requires going { (is_over self.old.verifier.stage ≡ false) × (wants_draw self.old.verifier.stage ≡ false) }
@@ -237,9 +243,10 @@ impl<'c> Conversation<'c> {
         ensures same { IsSame self.old self.new }
         ensures prover { self.new.prover ≡ self.old.prover }
         ensures frame { self.new.frame ≡ self.old.frame }
-        ensures seed { draws.new.seed ≡ draws.old.seed }
+        ensures source { draws.new.source ≡ draws.old.source }
         ensures judged { (says : Option Said) × Reads (take len self.old.frame.items) says × ((ask : AskOf) (t : Talk) → VerifierStandsFor self.old.verifier t
-            → IsFollowed self.new.verifier draws.new (read_on self.old.circuit.now (draw_at draws.old.seed) (Awaits ask t draws.old.place) says) result) }
+            → IsFollowed self.new.verifier draws.new (read_on self.old.circuit.now (draw_from draws.old.source) (Awaits ask t draws.old.place) says) result
+            × IsWorthIf self.old.circuit.now t result says) }
     {
         match take_frame(
             &mut self.verifier,
@@ -277,6 +284,7 @@ impl<'c> Conversation<'c> {
     // The verifier ends the conversation, whose answer it accepted.
     fn part<W: Watch, O: Sink>(&mut self, answer: bool, watch: &mut W, out: &mut O) -> Talked
         requires fitted { IsFitted self.old }
+        ensures alters { W.alters watch.new ≡ W.alters watch.old }
         ensures list { Adds (W.frames watch.old) (W.frames watch.new) (ask_spelling AskBye) }
         ensures told { IsParted (O.held out.old) (O.held out.new) (lines_of self.old (ask_spelling AskBye ∷ [])) answer result }
         ensures cause { TalkCounts (O.faults out.old) (O.faults out.new) result }
@@ -409,15 +417,16 @@ fn take_frame<L: Ledger>(
 fn go_on<L: Ledger>(
     verifier: &mut Verifier<'_>,
     next: Next,
-    draws: &mut Draws,
+    draws: &mut DrawRun,
     steps: &mut Steps<L>,
 ) -> Exchanged
     requires draws { draws.old.place < 2 ^ 60 }
     requires said { IsSaidOf next verifier.old.stage }
     requires going { next ≢ Next.Over }
     ensures circuit { verifier.new.circuit ≡ verifier.old.circuit }
-    ensures seed { draws.new.seed ≡ draws.old.seed }
-    ensures follows { (t : Talk) → (is_in_turn next ≡ true → VerifierStandsFor verifier.old t) → IsFollowed verifier.new draws.new (goes_on (draw_at draws.old.seed) t draws.old.place next) result }
+    ensures source { draws.new.source ≡ draws.old.source }
+    ensures certified { (b : Bool) → result ≡ Exchanged.Ends (Talked.Certified b) → next ≡ Next.Done b }
+    ensures follows { (t : Talk) → (is_in_turn next ≡ true → VerifierStandsFor verifier.old t) → IsFollowed verifier.new draws.new (goes_on (draw_from draws.old.source) t draws.old.place next) result }
 {
     match next {
         Next::Draw => {

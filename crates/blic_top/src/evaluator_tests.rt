@@ -13,7 +13,7 @@ use blic_qdimacs::read;
 use std::alloc::Global;
 use std::test::Fail;
 
-fn formula_of(alloc: Global, text: &str) -> Result<Formula, Fail> {
+pub(crate) fn formula_of(alloc: Global, text: &str) -> Result<Formula, Fail> {
     let bytes = lines_of(alloc, text)?;
     Ok(read(alloc, &mut SureSource::new(bytes.as_slice())).map_err(|_| "no formula")?)
 }
@@ -29,7 +29,7 @@ fn nodes_of(alloc: Global, formula: &Formula) -> Result<Vec<Node>, Fail> {
 }
 
 // The element of a number, or the negative of one.
-fn element(n: i64) -> Result<Fe, Fail> {
+pub(crate) fn element(n: i64) -> Result<Fe, Fail> {
     let size = Fe::from_u64(n.unsigned_abs()).ok_or("no element")?;
     Ok(if n < 0 { size.neg() } else { size })
 }
@@ -38,7 +38,7 @@ fn point_of(x: i64, y: i64) -> Result<[Fe; 4], Fail> {
     Ok([element(x)?, element(y)?, Fe::ZERO, Fe::ZERO])
 }
 
-const DIFFER: &str = "p cnf 2 2/a 1 0/e 2 0/1 2 0/-1 -2 0/";
+pub(crate) const DIFFER: &str = "p cnf 2 2/a 1 0/e 2 0/1 2 0/-1 -2 0/";
 
 #[test]
 fn values_and_polynomials_of_two_variables_that_differ(rt: HostRuntime) -> Result<(), Fail> {

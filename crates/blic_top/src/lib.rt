@@ -4,6 +4,8 @@
 mod cases;
 mod certify;
 mod conversation;
+mod draw_run;
+mod exercise;
 mod file;
 mod outcome;
 mod printing;
@@ -18,5 +20,9 @@ pub use program::run;
 mod evaluator;
 #[cfg(test)]
 mod evaluator_tests;
+#[cfg(test)]
+mod exercise_tests;
+#[cfg(test)]
+mod talk_tests;
 #[cfg(test)]
 mod tests;

@@ -47,6 +47,8 @@ pub enum Outcome {
     Certified(bool, u32, u32, u64, u64),
     /// The conversation was not accepted.
     NotCertified(Failure),
+    /// What `Certified` has, of a formula of an exercise.
+    Exercised(bool, u32, u32, u64, u64),
 }
 
 impl Outcome {
@@ -70,6 +72,7 @@ impl Outcome {
             Outcome::Certified(true, _, _, _, _) => 10,
             Outcome::Certified(false, _, _, _, _) => 20,
             Outcome::NotCertified(failure) => failure_status(failure),
+            Outcome::Exercised(_, _, _, _, _) => 0,
         }
     }
 
@@ -147,6 +150,21 @@ impl Outcome {
                 ],
             ),
             Outcome::NotCertified(failure) => print_failure(out, failure),
+            Outcome::Exercised(truth, vars, clauses, draws, bad) => print_pieces(
+                out,
+                &[
+                    Piece::Bytes(word(truth)),
+                    Piece::Bytes(b" vars "),
+                    Piece::Number(vars as u64),
+                    Piece::Bytes(b" clauses "),
+                    Piece::Number(clauses as u64),
+                    Piece::Bytes(b" draws "),
+                    Piece::Number(draws),
+                    Piece::Bytes(b" bad "),
+                    Piece::Number(bad),
+                    Piece::Bytes(b"\n"),
+                ],
+            ),
         }
     }
 }
@@ -168,6 +186,13 @@ fn answer(truth: bool) -> &'static [u8]
     ensures { result.now ≡ cond truth (codes "s cnf 1 ") (codes "s cnf 0 ") }
 {
     if truth { b"s cnf 1 " } else { b"s cnf 0 " }
+}
+
+// The word for a truth value.
+fn word(truth: bool) -> &'static [u8]
+    ensures { result.now ≡ cond truth (codes "true") (codes "false") }
+{
+    if truth { b"true" } else { b"false" }
 }
 
 // What is said where no formula was read.

@@ -1,5 +1,5 @@
 // The program's work.
-ghost use Rattle.std.specs.Prelude.{◌≡◌, ◌≢◌, ℕ, List, Some, None, Option, false};
+ghost use Rattle.std.specs.Prelude.{◌≡◌, ◌≢◌, Some, None, Option, false};
 ghost use Rattle.blic_basic.specs.Outside.{Rose};
 ghost use Rattle.blic_model.specs.Building.{circuit_of};
 ghost use Rattle.blic_top.specs.Asked.{asked_by, certify_asked_by};
@@ -7,9 +7,10 @@ ghost use Rattle.blic_top.specs.Words.{request_of, Certify};
 ghost use Rattle.blic_top.specs.OfFile.{HasSmallCircuit};
 ghost use Rattle.blic_top.specs.Means.{SaysOfFormula};
 ghost use Rattle.blic_top.specs.Deciding.{DecideCounts, Decides, SolvesFile};
-ghost use Rattle.blic_top.specs.Ends.{OutcomeCounts, Certifies, IsOrNoMemory, LimitsCircuit, LimitsSolving, Refuses, Says, Solves};
+ghost use Rattle.blic_top.specs.Ends.{OutcomeCounts, Certifies, Exercises, IsOrNoMemory, LimitsCircuit, LimitsSecond, LimitsSolving, Refuses, Says, Solves};
 
-use crate::certify::certify_formula;
+use crate::certify::{Manner, certify_formula};
+use crate::exercise::exercise;
 use crate::file::read_file;
 use crate::outcome::Outcome;
 use crate::printing::WriteFault;
@@ -34,8 +35,14 @@ use std::alloc::Global;
 /// and then `runs 1`, `draws D` and `bad B`. The draws are those of the seed that `--seed` gives as 64 hexadecimal digits, or of
 /// the next one of `entropy`. With `--talk` a line for each frame comes first.
 ///
+/// `exercise N` certifies two formulas of `N` pairs of variables, from 1 to 500, as `certify` does within the
+/// usual limits: `xor_chain` of `blic_gen`, the true one and then the false one. It prints a line for each as soon as it is
+/// certified, `true vars V clauses C draws D bad B` or the same with `false`, by the certified answer. The seed is one of 32 zeros where
+/// `--seed` gives none, and the draws go on from the first conversation to the second.
+///
 /// | status | where |
 /// |---|---|
+/// | 0 | `exercise` printed both lines |
 /// | 1 | the words don't fit |
 /// | 2 | the file spells no formula within the limits |
 /// | 3 | a call on the files or on the opened file failed |
@@ -63,12 +70,13 @@ pub fn run<F: Files, E: Entropy, W: Watch, O: Sink>(
       seen_after = W.frames watch.new;
     }) result (O.held out.old) (O.held out.new) }
 
-    // A fault is told only where one was, and of the files' and of entropy's faults none is passed over.
+    // A fault is told only where one was, and none is passed over.
     ensures read_fault { result ≡ 3 → Rose (F.faults files.old) (F.faults files.new) }
     ensures write_fault { result ≡ 4 → Rose (O.faults out.old) (O.faults out.new) }
     ensures entropy_fault { result ≡ 11 → Rose (E.faults entropy.old) (E.faults entropy.new) }
     ensures passes_no_fault { result ≢ 3 → result ≢ 4 → F.faults files.new ≡ F.faults files.old }
     ensures passes_no_entropy_fault { result ≢ 11 → result ≢ 4 → E.faults entropy.new ≡ E.faults entropy.old }
+    ensures passes_no_write_fault { result ≢ 4 → O.faults out.new ≡ O.faults out.old }
 
     // Where nothing failed, the status follows from the words and the file.
     ensures usage { ¬ (Rose (O.faults out.old) (O.faults out.new)) → request_of words.now.items ≡ None → IsOrNoMemory result 1 }
@@ -77,6 +85,10 @@ pub fn run<F: Files, E: Entropy, W: Watch, O: Sink>(
     ensures certifies { ¬ (Rose (F.faults files.old) (F.faults files.new)) → ¬ (Rose (O.faults out.old) (O.faults out.new))
         → ¬ (Rose (E.faults entropy.old) (E.faults entropy.new)) → W.alters watch.old ≡ false
         → Certifies (request_of words.now.items) (F.files files.old) result }
+    ensures exercises { ¬ (Rose (O.faults out.old) (O.faults out.new)) → W.alters watch.old ≡ false
+        → Exercises (request_of words.now.items) result }
+    ensures limits_second { ¬ (Rose (O.faults out.old) (O.faults out.new)) → W.alters watch.old ≡ false
+        → LimitsSecond (request_of words.now.items) result }
     ensures limits_solving { ¬ (Rose (F.faults files.old) (F.faults files.new)) → ¬ (Rose (O.faults out.old) (O.faults out.new))
         → LimitsSolving (request_of words.now.items) (F.files files.old) result }
     ensures limits_circuit { ¬ (Rose (F.faults files.old) (F.faults files.new)) → ¬ (Rose (O.faults out.old) (O.faults out.new))
@@ -109,6 +121,7 @@ fn perform<F: Files, E: Entropy, W: Watch, O: Sink>(
     ensures entropy_fault { result ≡ 11 → Rose (E.faults entropy.old) (E.faults entropy.new) }
     ensures passes_no_fault { result ≢ 3 → result ≢ 4 → F.faults files.new ≡ F.faults files.old }
     ensures passes_no_entropy_fault { result ≢ 11 → result ≢ 4 → E.faults entropy.new ≡ E.faults entropy.old }
+    ensures passes_no_write_fault { result ≢ 4 → O.faults out.new ≡ O.faults out.old }
 {
     match decide(alloc, words, files, entropy, watch, out) {
         Some(outcome) => match outcome.print(out) {
@@ -141,6 +154,7 @@ fn decide<F: Files, E: Entropy, W: Watch, O: Sink>(
     match parse_arguments(alloc, words) {
         Ok(Some(Arguments::Solve(asked))) => Some(solve(alloc, &asked, files)),
         Ok(Some(Arguments::Certify(asked))) => certify(alloc, &asked, files, entropy, watch, out),
+        Ok(Some(Arguments::Exercise(asked))) => exercise(alloc, &asked, entropy, watch, out),
         Ok(None) => Some(Outcome::Usage),
         Err(_) => Some(Outcome::NoMemory),
     }
@@ -166,7 +180,16 @@ fn certify<F: Files, E: Entropy, W: Watch, O: Sink>(
     ensures cause { DecideCounts (F.faults files.old) (F.faults files.new) (E.faults entropy.old) (E.faults entropy.new) (O.faults out.old) (O.faults out.new) result }
 {
     match read_file(alloc, asked.file, files) {
-        Ok(formula) => certify_formula(alloc, &formula, asked, entropy, watch, out),
+        Ok(formula) => {
+            let manner = Manner {
+                nodes: asked.nodes,
+                pairs: asked.pairs,
+                seed: asked.seed,
+                first: 0,
+                talk: asked.talk,
+            };
+            certify_formula(alloc, &formula, &manner, entropy, watch, out)
+        }
         Err(error) => Some(Outcome::NotRead(error)),
     }
 }

@@ -10,7 +10,7 @@ use std::fmt::Write;
 use std::process::Abort;
 use std::test::Fail;
 
-fn words_of(alloc: Global, words: &str) -> Result<Vec<String>, AllocError> {
+pub(crate) fn words_of(alloc: Global, words: &str) -> Result<Vec<String>, AllocError> {
     let mut all = Vec::new(alloc);
     for word in words.split_whitespace() {
         all.push(String::from_str(alloc, word)?)?;
@@ -18,7 +18,7 @@ fn words_of(alloc: Global, words: &str) -> Result<Vec<String>, AllocError> {
     Ok(all)
 }
 
-fn sink(alloc: Global, failing: Vec<u64>, room: usize) -> Result<MemSink, Fail> {
+pub(crate) fn sink(alloc: Global, failing: Vec<u64>, room: usize) -> Result<MemSink, Fail> {
     Ok(MemSink::new(alloc, 7, failing, room).map_err(|_| "memory")?)
 }
 
@@ -289,7 +289,14 @@ certify f --talk x
 certify f --nodes 0
 certify f --repeat 2
 certify f --talk --talk
+exercise
 exercise 0
+exercise 501
+exercise x
+exercise 1 2
+exercise 1 --seed 12
+exercise 1 --talk
+exercise 1 --nodes 7
 solve --help
 solve f -- b
 solve f --node 7

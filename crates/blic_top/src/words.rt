@@ -3,7 +3,7 @@ ghost use Rattle.std.specs.Prelude.{◌≡◌, IfOk, IfSome, true, false, is_som
 ghost use Rattle.std.specs.List.{list_all};
 ghost use Rattle.clap.specs.Words.{rule_of, app_of, fault_of, found_of, is_simple_and_free, matches_of, rows_of};
 ghost use Rattle.blic_top.specs.Asked.{request_by};
-ghost use Rattle.blic_top.specs.Words.{Solve, Certify, certify_command as command_of_certify, certify_words_in, certify_words_of, flag_word, is_digit, is_free_of_faults, is_set as is_given, number_in as number_of, number_or as number_given, option_word, request_of, required_word, seed_in as seed_of, seed_or_none as seed_given, solve_command as command_of_solve, solve_words_in, solve_words_of};
+ghost use Rattle.blic_top.specs.Words.{Solve, Certify, Exercise, certify_command as command_of_certify, certify_words_in, certify_words_of, exercise_command as command_of_exercise, exercise_words_in, exercise_words_of, flag_word, is_digit, is_free_of_faults, is_set as is_given, number_in as number_of, number_or as number_given, number_required as number_that_stands, option_word, request_of, required_word, seed_in as seed_of, seed_or_none as seed_given, solve_command as command_of_solve, solve_words_in, solve_words_of};
 
 use clap::error::ErrorKind;
 use clap::{Arg, ArgAction, ArgMatches, Command};
@@ -13,13 +13,16 @@ use std::alloc::{AllocError, Global};
 const MOST_NODES: u32 = 16_777_216;
 
 /// The value of `--nodes` where it isn't given.
-const USUAL_NODES: u32 = 4_194_304;
+pub(crate) const USUAL_NODES: u32 = 4_194_304;
 
 /// The greatest value of `--pairs`.
 const MOST_PAIRS: u32 = 33_554_432;
 
 /// The value of `--pairs` where it isn't given.
-const USUAL_PAIRS: u32 = 16_777_216;
+pub(crate) const USUAL_PAIRS: u32 = 16_777_216;
+
+/// The greatest number of pairs of variables that `exercise` takes.
+const MOST_EXERCISE: u32 = 500;
 
 /// What `solve` is asked for: a file, and how many decisions and pairs solving may take.
 #[derive(Clone, Copy)]
@@ -40,11 +43,19 @@ pub(crate) struct CertifyArguments<'a> {
     pub(crate) talk: bool,
 }
 
+/// What `exercise` is asked for: how many pairs of variables its formulas have, and a seed.
+#[derive(Clone, Copy)]
+pub(crate) struct ExerciseArguments {
+    pub(crate) pairs: u32,
+    pub(crate) seed: [u8; 32],
+}
+
 /// What the words ask for, by the command that the first one names.
 #[derive(Clone, Copy)]
 pub(crate) enum Arguments<'a> {
     Solve(SolveArguments<'a>),
     Certify(CertifyArguments<'a>),
+    Exercise(ExerciseArguments),
 }
 
 /// What the words ask for, where they fit. The only error is want of memory.
@@ -57,6 +68,7 @@ pub(crate) fn parse_arguments<'a>(
     match words {
         [name, ..] if name.as_str() == "solve" => solve_arguments(alloc, words),
         [name, ..] if name.as_str() == "certify" => certify_arguments(alloc, words),
+        [name, ..] if name.as_str() == "exercise" => exercise_arguments(alloc, words),
         _ => Ok(None),
     }
 }
@@ -93,6 +105,21 @@ fn certify_arguments<'a>(
     let seed = matches.get_str("seed");
     let talk = matches.get_str("talk");
     Ok(certify_asked(file, nodes, pairs, seed, talk))
+}
+
+// What the words of `exercise` ask for.
+fn exercise_arguments<'a>(
+    alloc: Global,
+    words: &'a [String],
+) -> Result<Option<Arguments<'a>>, AllocError>
+    ensures { IfOk result (λ asked. option_map request_by asked ≡ option_map Exercise (exercise_words_in command_of_exercise (map string_bytes words.entry.now))) }
+{
+    let Some(matches) = taken(exercise_command(alloc)?, words)? else {
+        return Ok(None);
+    };
+    let pairs = matches.get_str("N");
+    let seed = matches.get_str("seed");
+    Ok(exercise_asked(pairs, seed))
 }
 
 // What the words give, where the command takes them.
@@ -142,6 +169,16 @@ fn certify_command<'a>(alloc: Global) -> Result<Command<'a>, AllocError>
         .arg(pairs)?
         .arg(seed)?
         .arg(talk)?;
+    Ok(command)
+}
+
+// The command that the words of `exercise` are read by.
+fn exercise_command<'a>(alloc: Global) -> Result<Command<'a>, AllocError>
+    ensures { IfOk result (λ command. app_of command ≡ command_of_exercise) }
+{
+    let pairs = required(alloc, "N");
+    let seed = option(alloc, "seed");
+    let command = Command::new(alloc, "exercise").arg(pairs)?.arg(seed)?;
     Ok(command)
 }
 
@@ -207,6 +244,20 @@ fn certify_asked<'a>(
         seed: seed_or_none(seed)?,
         talk: is_set(talk),
     }))
+}
+
+// The texts that were given, as what is asked for of `exercise`.
+fn exercise_asked<'a>(pairs: Option<&str>, seed: Option<&str>) -> Option<Arguments<'a>>
+    ensures { option_map request_by result ≡ option_map Exercise (exercise_words_of
+        (number_that_stands 1 500 (option_map (λ t. t.now) pairs.entry))
+        (seed_given (option_map (λ t. t.now) seed.entry))) }
+{
+    let pairs = number_in(1, MOST_EXERCISE, pairs?)?;
+    let seed = match seed_or_none(seed)? {
+        Some(seed) => seed,
+        None => [0; 32],
+    };
+    Some(Arguments::Exercise(ExerciseArguments { pairs, seed }))
 }
 
 // A seed that isn't given, or one that is spelled.

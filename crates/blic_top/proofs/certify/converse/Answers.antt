@@ -4,7 +4,7 @@ use Rattle.blic_model.specs.Counts.{draws as draw_count, bad as bad_count}
 use Rattle.blic_messages.specs.declared.ask.Ask.TheVariants.{Hello}
 use Rattle.blic_verifier.specs.Verdict.{Silent}
 use Rattle.blic_top.specs.Talking.{IsAt}
-use Rattle.blic_top.specs.Asked.{certify_asked_by}
+use Rattle.blic_top.specs.Asked.{manner_by}
 use Rattle.blic_top.specs.World.{World}
 use Rattle.blic_top.proofs.Certified.{certified_truth, failed_altered, hello_is, seed_is, told_certified, told_failed, told_front}
 use Rattle.blic_top.proofs.Honesty.{HasLaws}
@@ -17,7 +17,7 @@ hold-requires-clause-silent g c d place =
 pub returns-in-Certified-clause-decides : goal.returns-in-Certified-clause-decides
 returns-in-Certified-clause-decides g c =
     let f = c.args.formula.now in
-    let w = certify_asked_by c.args.asked.now in
+    let m = manner_by c.args.manner.now in
     let world : World = record {
       files = None;
       seeds = g.E.Entropy.seeds c.args.entropy.now;
@@ -37,14 +37,15 @@ returns-in-Certified-clause-decides g c =
     } in
     let same = c.in-Ok-new.ensures.same in
     let talk = c.in-Certified.ensures.talk in
-    let told = told_certified f w world c.in-Ok-new.conversation c.in-Some.seed talk.0 _ _ c.in-Certified.answer (same.0 ∙ c.requires.circuit) (same.1 ∙ hello_is f c.in-Ok-name_of.digest c.in-Ok-name_of.ensures) same.2
-    (seed_is w.seed world c.in-Some.seed c.in-Some.ensures.seed) talk.2 in (
+    let told = told_certified f m world c.in-Ok-new.conversation c.in-Some.seed talk.0 _ _ c.in-Certified.answer (same.0 ∙ c.requires.circuit) (same.1 ∙ hello_is f c.in-Ok-name_of.digest c.in-Ok-name_of.ensures) same.2
+    (seed_is m.seed world c.in-Some.seed c.in-Some.ensures.seed) talk.2 in (
       talk.0,
       talk.1,
       (
         c.requires.can,
         told.0,
-        certified_truth f w world talk.0 c.in-Certified.answer c.is_within_limits.ensures c.circuit_law.ensures.root_value laws told.0,
+        told.2,
+        certified_truth f m world talk.0 c.in-Certified.answer c.is_within_limits.ensures c.circuit_law.ensures.root_value laws told.0,
         c.vars.ensures,
         c.clause_count.ensures,
         c.draws.ensures c.args.circuit.now c.in-Ok.ensures ∙ ap (λ z. draw_count z.nodes (length z.order)) c.requires.circuit,
@@ -56,7 +57,7 @@ returns-in-Certified-clause-decides g c =
 pub returns-in-Failed-clause-decides : goal.returns-in-Failed-clause-decides
 returns-in-Failed-clause-decides g c =
     let f = c.args.formula.now in
-    let w = certify_asked_by c.args.asked.now in
+    let m = manner_by c.args.manner.now in
     let world : World = record {
       files = None;
       seeds = g.E.Entropy.seeds c.args.entropy.now;
@@ -76,14 +77,14 @@ returns-in-Failed-clause-decides g c =
     } in
     let same = c.in-Ok-new.ensures.same in
     let talk = c.in-Failed.ensures.talk in
-    let told = told_failed f w world c.in-Ok-new.conversation c.in-Some.seed talk.0 _ _ c.in-Failed.failure (same.0 ∙ c.requires.circuit) (same.1 ∙ hello_is f c.in-Ok-name_of.digest c.in-Ok-name_of.ensures) same.2
-    (seed_is w.seed world c.in-Some.seed c.in-Some.ensures.seed) talk.2 in
-    (talk.0, talk.1, (c.requires.can, told.0, failed_altered f w world talk.0 c.in-Failed.failure c.is_within_limits.ensures c.circuit_law.ensures.root_value laws told.0), told.1)
+    let told = told_failed f m world c.in-Ok-new.conversation c.in-Some.seed talk.0 _ _ c.in-Failed.failure (same.0 ∙ c.requires.circuit) (same.1 ∙ hello_is f c.in-Ok-name_of.digest c.in-Ok-name_of.ensures) same.2
+    (seed_is m.seed world c.in-Some.seed c.in-Some.ensures.seed) talk.2 in
+    (talk.0, talk.1, (c.requires.can, told.0, failed_altered f m world talk.0 c.in-Failed.failure c.is_within_limits.ensures c.circuit_law.ensures.root_value laws told.0), told.1)
 
 pub returns-clause-decides : goal.returns-clause-decides
 returns-clause-decides g c =
     let f = c.args.formula.now in
-    let w = certify_asked_by c.args.asked.now in
+    let m = manner_by c.args.manner.now in
     let world : World = record {
       files = None;
       seeds = g.E.Entropy.seeds c.args.entropy.now;
@@ -94,6 +95,6 @@ returns-clause-decides g c =
     } in
     let same = c.in-Ok-new.ensures.same in
     let talk = c.in-Unprinted.ensures.talk in
-    let told = told_front f w world c.in-Ok-new.conversation c.in-Some.seed talk.0 _ _ c.requires.can (same.0 ∙ c.requires.circuit) (same.1 ∙ hello_is f c.in-Ok-name_of.digest c.in-Ok-name_of.ensures) same.2
-    (seed_is w.seed world c.in-Some.seed c.in-Some.ensures.seed) talk.2 in
+    let told = told_front f m world c.in-Ok-new.conversation c.in-Some.seed talk.0 _ _ c.requires.can (same.0 ∙ c.requires.circuit) (same.1 ∙ hello_is f c.in-Ok-name_of.digest c.in-Ok-name_of.ensures) same.2
+    (seed_is m.seed world c.in-Some.seed c.in-Some.ensures.seed) talk.2 in
     (talk.0, talk.1, told.0, told.1.0, told.1.1)

@@ -1,5 +1,5 @@
 use Rattle.std.proofs.Common.{ap, subst}
-use Rattle.blic_draw.specs.Draws.{draw_at}
+use Rattle.blic_top.specs.DrawRun.{draw_from}
 use Rattle.blic_top.specs.Talking.{IsTalk}
 use Rattle.blic_top.proofs.certify.hold_counted.Goals as goal
 
@@ -11,6 +11,6 @@ returns-clause-talk g c =
     let talk = c.hold.ensures.talk in (
       talk.0,
       talk.1,
-      subst (λ seed. IsTalk c.args.conversation.now (draw_at seed) (g.W.Watch.alters c.args.watch.now) talk.0 (g.O.Sink.held c.args.out.now) (g.O.Sink.held c.hold.new.out) c.hold.result)
-          (ap (λ d. d.seed) c.new-draws.ensures) talk.2,
+      subst (λ source. IsTalk c.args.conversation.now (draw_from source) (g.W.Watch.alters c.args.watch.now) talk.0 (g.O.Sink.held c.args.out.now) (g.O.Sink.held c.hold.new.out) c.hold.result)
+          (ap (λ d. d.source) c.new-draws.ensures) talk.2,
     )

@@ -1,8 +1,5 @@
-use Rattle.std.proofs.Common.{Some, refl}
-use Rattle.blic_top.specs.Words.{Certify}
-use Rattle.blic_top.specs.declared.outcome.Outcome.TheVariants.{NotRead}
 use Rattle.blic_top.specs.Asked.{certify_asked_by}
-use Rattle.blic_top.proofs.Saying.{decides_file, decides_quietly}
+use Rattle.blic_top.proofs.Saying.{decides_file, refused_quietly}
 use Rattle.blic_top.proofs.program.certify.Goals as goal
 
 pub returns-in-Ok-clause-decides : goal.returns-in-Ok-clause-decides
@@ -18,5 +15,5 @@ returns-in-Ok-clause-decides g c =
 
 pub returns-in-Err-clause-decides : goal.returns-in-Err-clause-decides
 returns-in-Err-clause-decides g c =
-    decides_quietly (Some (Certify (certify_asked_by c.args.asked.now))) (g.F.Files.files c.args.files.now) (g.E.Entropy.seeds c.args.entropy.now) (g.W.Watch.alters c.args.watch.now)
-    (g.W.Watch.frames c.args.watch.now) (g.O.Sink.held c.args.out.now) (NotRead c.in-Err.error) (c.in-Err.ensures.says, (refl, refl))
+    refused_quietly (certify_asked_by c.args.asked.now) (g.F.Files.files c.args.files.now) (g.E.Entropy.seeds c.args.entropy.now) (g.W.Watch.alters c.args.watch.now)
+    (g.W.Watch.frames c.args.watch.now) (g.O.Sink.held c.args.out.now) c.in-Err.error c.in-Err.ensures.says

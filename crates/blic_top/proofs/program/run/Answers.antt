@@ -1,4 +1,4 @@
-use Rattle.blic_top.proofs.Solving.{usage_by, solves_by, certifies_by, limits_solving_by, limits_circuit_by, refuses_by}
+use Rattle.blic_top.proofs.Solving.{usage_by, solves_by, certifies_by, exercises_by, limits_second_by, limits_solving_by, limits_circuit_by, refuses_by}
 use Rattle.blic_top.proofs.program.run.Goals as goal
 
 pub returns-clause-usage : goal.returns-clause-usage
@@ -36,6 +36,30 @@ returns-clause-certifies g c calm quiet rested honest =
       seen = g.W.Watch.frames c.args.watch.now;
       seen_after = g.W.Watch.frames c.perform.new.watch;
     }) c.perform.result _ _ c.perform.ensures.says (λ e. calm (c.perform.ensures.read_fault e)) (λ e. quiet (c.perform.ensures.write_fault e)) (λ e. rested (c.perform.ensures.entropy_fault e)) honest)
+
+pub returns-clause-exercises : goal.returns-clause-exercises
+returns-clause-exercises g c quiet honest =
+    rw (← c.deref.ensures.value)
+    (exercises_by _ (record {
+      files = g.F.Files.files c.args.files.now;
+      seeds = g.E.Entropy.seeds c.args.entropy.now;
+      seeds_after = g.E.Entropy.seeds c.perform.new.entropy;
+      alters = g.W.Watch.alters c.args.watch.now;
+      seen = g.W.Watch.frames c.args.watch.now;
+      seen_after = g.W.Watch.frames c.perform.new.watch;
+    }) c.perform.result _ _ c.perform.ensures.says (λ e. quiet (c.perform.ensures.write_fault e)) honest)
+
+pub returns-clause-limits_second : goal.returns-clause-limits_second
+returns-clause-limits_second g c quiet honest =
+    rw (← c.deref.ensures.value)
+    (limits_second_by _ (record {
+      files = g.F.Files.files c.args.files.now;
+      seeds = g.E.Entropy.seeds c.args.entropy.now;
+      seeds_after = g.E.Entropy.seeds c.perform.new.entropy;
+      alters = g.W.Watch.alters c.args.watch.now;
+      seen = g.W.Watch.frames c.args.watch.now;
+      seen_after = g.W.Watch.frames c.perform.new.watch;
+    }) c.perform.result _ _ c.perform.ensures.says (λ e. quiet (c.perform.ensures.write_fault e)) honest)
 
 pub returns-clause-limits_solving : goal.returns-clause-limits_solving
 returns-clause-limits_solving g c calm quiet =

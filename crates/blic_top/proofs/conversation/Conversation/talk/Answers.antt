@@ -1,5 +1,5 @@
 use Rattle.std.proofs.Common.{refl, sym, ◌∙◌, ap, subst}
-use Rattle.blic_draw.specs.Draws.{draw_at}
+use Rattle.blic_top.specs.DrawRun.{draw_from}
 use Rattle.blic_top.specs.Talking.{HasCome}
 use Rattle.blic_top.specs.declared.conversation.Exchanged.TheVariants.{Asks, Ends}
 use Rattle.blic_top.proofs.Onward.{at_the_start, nothing_more, onward, to_the_end}
@@ -22,8 +22,8 @@ returns-in-Ends-clause-way g c =
     let w = i.6 in
     let ex = c.in-Ends.ensures.exchanged w.0 w.1 w.3 in
     let come = subst (λ b. HasCome c.loop.self c.exchange.new.self c.loop.draws c.exchange.new.draws b w.0 c.loop.ask w.1 ex.0 (Ends c.in-Ends.talked)) i.4 ex.2 in
-    to_the_end c.args.self.now c.loop.self c.exchange.new.self (draw_at c.args.draws.now.seed) (g.W.Watch.alters c.args.watch.now) c.loop.draws c.exchange.new.draws c.loop.ask _ _ _ _ _ _
-    w.0 w.1 w.2 ex.0 c.in-Ends.talked i.1.0 i.1.2 (ap draw_at (sym i.3)) w.4 w.5 w.6 ex.1 come ex.3
+    to_the_end c.args.self.now c.loop.self c.exchange.new.self (draw_from c.args.draws.now.source) (g.W.Watch.alters c.args.watch.now) c.loop.draws c.exchange.new.draws c.loop.ask _ _ _ _ _ _
+    w.0 w.1 w.2 ex.0 c.in-Ends.talked i.1.0 i.1.2 (ap draw_from (sym i.3)) w.4 w.5 w.6 ex.1 come ex.3
 
 pub loop-preserved : goal.loop-preserved
 loop-preserved g c =
@@ -35,9 +35,9 @@ loop-preserved g c =
       c.in-Asks.ensures.fitted,
       (same.0 ∙ i.1.0, same.1 ∙ i.1.1, same.2 ∙ i.1.2),
       c.in-Asks.ensures.answers ∙ (i.2 ∙ sym same.0),
-      c.in-Asks.ensures.seed ∙ i.3,
+      c.in-Asks.ensures.source ∙ i.3,
       c.in-Asks.ensures.alters ∙ i.4,
       c.in-Asks.ensures.cause ∙ i.5,
-      onward c.args.self.now c.loop.self c.exchange.new.self (draw_at c.args.draws.now.seed) (g.W.Watch.alters c.args.watch.now) c.loop.draws c.exchange.new.draws c.loop.ask c.in-Asks.next _ _ _ _ _ _
-          c.loop.counter w.0 w.1 w.2 ex.0 i.1.0 i.1.2 (ap draw_at (sym i.3)) w.4 w.5 w.6 w.7 ex.1 come ex.3,
+      onward c.args.self.now c.loop.self c.exchange.new.self (draw_from c.args.draws.now.source) (g.W.Watch.alters c.args.watch.now) c.loop.draws c.exchange.new.draws c.loop.ask c.in-Asks.next _ _ _ _ _ _
+          c.loop.counter w.0 w.1 w.2 ex.0 i.1.0 i.1.2 (ap draw_from (sym i.3)) w.4 w.5 w.6 w.7 ex.1 come ex.3,
     )
