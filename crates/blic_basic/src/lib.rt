@@ -36,10 +36,12 @@ pub use sink::{Given, Sink, Wrote, write_all_counted};
 pub use source::{Source, Taken};
 pub use steps::Steps;
 pub use sure::{SureEntropy, SureFiles, SureSink, SureSource};
+use thiserror::Error;
 pub use watch::{NoWatch, Watch};
 
 /// Memory ran out: the error of calls that can want nothing else.
-#[derive(Clone, Copy, Debug, PartialEq, Eq)]
+#[derive(Clone, Copy, Debug, PartialEq, Eq, Error)]
+#[error("memory ran out")]
 pub struct NoMem;
 
 impl From<std::alloc::AllocError> for NoMem {

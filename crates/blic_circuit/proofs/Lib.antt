@@ -1,4 +1,5 @@
 pub mod Bounds
+pub mod Candidates
 pub mod Halves
 pub mod Levels
 pub mod Literals

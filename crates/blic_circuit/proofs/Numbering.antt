@@ -1,20 +1,17 @@
--- The order of nodes tells all nodes apart, and a node that is appended gets the list's length as its number.
-use Rattle.std.proofs.Common.{◌≡◌, ℕ, ◌+◌, ◌<◌, ◌≤◌, List, [], ◌∷◌, ◌++◌, length, refl, ap, sym, ◌∙◌, inl, inr, arith, Bool, true, false, not, ◌&&◌, ◌||◌, cond, eqb, ltb, Option, Some, None}
-use Rattle.std.proofs.Common.{Ordering}
-use Rattle.std.specs.Prelude.{◌==◌}
-use Rattle.std.specs.declared.cmp.Ordering.TheVariants.{Less, Equal, Greater}
+-- A node's number in a list is where it was found, and a node that is appended gets the list's length.
+use Rattle.std.proofs.Common.{◌≡◌, ℕ, zero, suc, ◌+◌, ◌<◌, ◌≤◌, List, [], ◌∷◌, ◌++◌, length, map, refl, ap, sym, ◌∙◌, inl, inr, arith, Bool, true, false, not, ◌&&◌, ◌||◌, cond, eqb, ltb, Option, Some, None}
 use Rattle.std.specs.List.{position_or_len, list_any}
-use Rattle.std.specs.Cmp.{unsigned_ties}
-use Rattle.std.specs.Ordering.{is_eq, nat_cmp, bool_cmp, ordering_then}
-use Rattle.std.proofs.lemmas.Bool.{cases_eq, cases_lt, cases_Bool, eqb-true, eq-eqb, ne_eqb, lt-ltb, le-ltb}
-use Rattle.std.proofs.lemmas.List.{length_push, length-take}
-use Rattle.std.proofs.lemmas.List.Folds.{position_or_len_push, length-prefix_len, list_any-append}
+use Rattle.std.proofs.lemmas.Bool.{cases_lt, cases_Bool, eqb-true, eq-eqb, lt-ltb, le-ltb}
+use Rattle.std.proofs.lemmas.List.{length-take, map-append}
+use Rattle.std.proofs.lemmas.List.Sums.{position_or_len_is}
+use Rattle.std.proofs.lemmas.List.Folds.{list_any_at, length-prefix_len, list_any-append}
 use mathlib.Core.Path.{ap₂}
 use Rattle.blic_model.specs.declared.node.Node.{Node}
 use Rattle.blic_model.specs.declared.node.Node.TheVariants.{Const, Var, Not, Fix, And, Or}
+use Rattle.blic_model.specs.Circuit.{node_at}
 use Rattle.blic_model.specs.Building.{Added, same_bit, same_node, add_node}
 use Rattle.blic_model.specs.Shape.{all_differ}
-use Rattle.blic_circuit.specs.Numbers.{node_cmp, number_of}
+use Rattle.blic_circuit.specs.Numbers.{hash_of, number_of}
 
 wrong : false ≡ true → ⊥
 wrong q = cc
@@ -64,40 +61,6 @@ same_node_swapped m n h = elim (cases_Bool (same_node n m)) [
   | inr f ↦ f
 ]
 
-both_tie : (o p : Ordering) → is_eq (ordering_then o p) ≡ (is_eq o && is_eq p)
-both_tie Less p = refl
-both_tie Equal p = refl
-both_tie Greater p = refl
-
-bits_tie : (b c : Bool) → is_eq (bool_cmp b c) ≡ same_bit b c
-bits_tie true true = refl
-bits_tie true false = refl
-bits_tie false true = refl
-bits_tie false false = refl
-
-numbers_tie : (x y : ℕ) → is_eq (nat_cmp x y) ≡ (x == y)
-numbers_tie x y = sym (unsigned_ties x y)
-
-pairs_tie : (a b c d : ℕ) → is_eq (ordering_then (nat_cmp a c) (nat_cmp b d)) ≡ ((a == c) && (b == d))
-pairs_tie a b c d = both_tie (nat_cmp a c) (nat_cmp b d) ∙ ap₂ (λ p q. p && q) (numbers_tie a c) (numbers_tie b d)
-
--- two nodes tie in their order exactly where they are the same
-pub same_node_by_cmp : (m n : Node) → is_eq (node_cmp m n) ≡ same_node m n
-same_node_by_cmp (Const b) (Const c) = bits_tie b c
-same_node_by_cmp (Var x) (Var y) = numbers_tie x y
-same_node_by_cmp (Not a) (Not b) = numbers_tie a b
-same_node_by_cmp (Fix x b a) (Fix y c d) =
-    both_tie (nat_cmp x y) (ordering_then (bool_cmp b c) (nat_cmp a d))
-    ∙ ap₂ (λ p q. p && q) (numbers_tie x y) (both_tie (bool_cmp b c) (nat_cmp a d) ∙ ap₂ (λ p q. p && q) (bits_tie b c) (numbers_tie a d))
-same_node_by_cmp (And a b) (And c d) = pairs_tie a b c d
-same_node_by_cmp (Or a b) (Or c d) = pairs_tie a b c d
-same_node_by_cmp (Const b) _ = refl
-same_node_by_cmp (Var x) _ = refl
-same_node_by_cmp (Not a) _ = refl
-same_node_by_cmp (Fix x b a) _ = refl
-same_node_by_cmp (And a b) _ = refl
-same_node_by_cmp (Or a b) _ = refl
-
 position_le : {X : Type 0} (p : X → Bool) (xs : List X) → position_or_len p xs ≤ length xs
 position_le p xs = omega (arith, length-prefix_len (λ x. not (p x)) xs, length-take (position_or_len p xs) xs)
 
@@ -139,41 +102,6 @@ add_node_new nodes n e =
     let b : ltb (position_or_len (same_node n) nodes) (length nodes) ≡ false = le-ltb _ _ (omega arith) in
     λ i. record { nodes = cond (sym b i) nodes (nodes ++ n ∷ []); number = sym w i }
 
-pushed_same : (nodes : List Node) (n : Node) → number_of nodes n ≡ None → Some (length nodes) ≡ number_of (nodes ++ n ∷ []) n
-pushed_same nodes n e =
-    let w : position_or_len (same_node n) nodes ≡ length nodes = numbered_none _ _ (position_le (same_node n) nodes) e in
-    let p : position_or_len (same_node n) (nodes ++ n ∷ []) ≡ length nodes =
-    position_or_len_push (same_node n) nodes n
-    ∙ (ap (λ b. cond b (length nodes + cond (same_node n n) 0 1) (position_or_len (same_node n) nodes)) (eq-eqb _ _ w)
-    ∙ (ap (λ b. length nodes + cond b 0 1) (same_node_itself n) ∙ omega arith)) in
-    sym (ap (λ k. numbered k (length (nodes ++ n ∷ []))) p ∙ numbered_below _ _ (omega (arith, length_push nodes n)))
-
-pushed_other : (nodes : List Node) (n q : Node) → same_node q n ≡ false → number_of nodes q ≡ number_of (nodes ++ n ∷ []) q
-pushed_other nodes n q apart = elim (cases_eq (position_or_len (same_node q) nodes) (length nodes)) [
-  | inl w ↦
-      let p : position_or_len (same_node q) (nodes ++ n ∷ []) ≡ length nodes + 1 =
-      position_or_len_push (same_node q) nodes n
-      ∙ (ap (λ b. cond b (length nodes + cond (same_node q n) 0 1) (position_or_len (same_node q) nodes)) (eq-eqb _ _ w)
-      ∙ ap (λ b. length nodes + cond b 0 1) apart) in
-      numbered_past _ _ (omega arith) ∙ sym (numbered_past _ _ (omega (arith, length_push nodes n)))
-  | inr ne ↦
-      let l : position_or_len (same_node q) nodes ≤ length nodes = position_le (same_node q) nodes in
-      let p : position_or_len (same_node q) (nodes ++ n ∷ []) ≡ position_or_len (same_node q) nodes =
-      position_or_len_push (same_node q) nodes n
-      ∙ ap (λ b. cond b (length nodes + cond (same_node q n) 0 1) (position_or_len (same_node q) nodes)) (ne_eqb _ _ ne) in
-      numbered_below _ _ (omega arith) ∙ (ap Some (sym p) ∙ sym (numbered_below _ _ (omega (arith, length_push nodes n))))
-]
-
--- the numbers after a node is appended
-pub number_pushed : (nodes : List Node) (n q : Node) → number_of nodes n ≡ None
-    → cond (is_eq (node_cmp n q)) (Some (length nodes)) (number_of nodes q) ≡ number_of (nodes ++ n ∷ []) q
-number_pushed nodes n q e = ap (λ b. cond b (Some (length nodes)) (number_of nodes q)) (same_node_by_cmp n q) ∙ (elim (cases_Bool (same_node n q)) [
-  | inl t ↦
-      ap (λ b. cond b (Some (length nodes)) (number_of nodes q)) t
-      ∙ (pushed_same nodes n e ∙ ap (number_of (nodes ++ n ∷ [])) (same_node_true n q t))
-  | inr f ↦ ap (λ b. cond b (Some (length nodes)) (number_of nodes q)) f ∙ pushed_other nodes n q (same_node_swapped n q f)
-])
-
 -- the same of a list that was lengthened in steps
 pub add_node_appended : (nodes old longer : List Node) (n : Node) (k : ℕ) → nodes ≡ old → longer ≡ nodes ++ n ∷ [] → k ≡ length nodes → number_of nodes n ≡ None
     → (let r : Added = record { nodes = longer; number = k } in r) ≡ add_node n old
@@ -183,15 +111,6 @@ add_node_appended nodes old longer n k same more count e =
     let l : k ≡ length old = count ∙ ap length same in
     let path : (let r : Added = record { nodes = longer; number = k } in r) ≡ record { nodes = old ++ n ∷ []; number = length old } = λ i. record { nodes = m i; number = l i } in
     path ∙ add_node_new old n e'
-
--- the numbers after the same
-pub number_appended : (nodes longer : List Node) (n q : Node) (k : ℕ) (found held : Option ℕ) → longer ≡ nodes ++ n ∷ [] → k ≡ length nodes → number_of nodes n ≡ None
-    → held ≡ number_of nodes q → found ≡ cond (is_eq (node_cmp n q)) (Some k) held → found ≡ number_of longer q
-number_appended nodes longer n q k found held more count e same updated =
-    updated
-    ∙ (ap (λ j. cond (is_eq (node_cmp n q)) (Some j) held) count
-    ∙ (ap (λ o. cond (is_eq (node_cmp n q)) (Some (length nodes)) o) same
-    ∙ (number_pushed nodes n q e ∙ ap (λ ns. number_of ns q) (sym more))))
 
 -- where a node is found nowhere, no node of the list is equal to it
 nowhere : (n x : Node) (nodes : List Node) → position_or_len (same_node n) (x ∷ nodes) ≡ length (x ∷ nodes)
@@ -221,3 +140,38 @@ differ_pushed (x ∷ nodes) n d e =
 pub differ_appended : (nodes longer : List Node) (n : Node) → all_differ nodes ≡ true → longer ≡ nodes ++ n ∷ [] → number_of nodes n ≡ None → all_differ longer ≡ true
 differ_appended nodes longer n d more e =
     ap all_differ more ∙ differ_pushed nodes n d (numbered_none _ _ (position_le (same_node n) nodes) e)
+
+-- no two places of the list have equal nodes
+places_differ : (nodes : List Node) → all_differ nodes ≡ true → (i j : ℕ) → i < j → j < length nodes → same_node (node_at nodes i) (node_at nodes j) ≡ true → ⊥
+places_differ [] d i j l m e = omega arith
+places_differ (x ∷ nodes) d i zero l m e = omega arith
+places_differ (x ∷ nodes) d zero (suc j) l m e =
+    let h = both (not (list_any (same_node x) nodes)) (all_differ nodes) d in
+    let some = list_any_at (same_node x) nodes j (Const false) (omega arith) e in
+    wrong (sym (ap not some) ∙ h.0)
+places_differ (x ∷ nodes) d (suc i) (suc j) l m e =
+    places_differ nodes (both (not (list_any (same_node x) nodes)) (all_differ nodes) d).1 i j (omega arith) (omega arith) e
+
+-- a node that stands at a place has its number
+pub number_found : (nodes : List Node) (n : Node) (k : ℕ) → all_differ nodes ≡ true → k < length nodes → same_node n (node_at nodes k) ≡ true → Some k ≡ number_of nodes n
+number_found nodes n k d l e =
+    let same = same_node_true n (node_at nodes k) e in
+    let place : position_or_len (same_node n) nodes ≡ k =
+    position_or_len_is (same_node n) nodes k (Const false) (omega arith) (λ j m. elim (cases_Bool (same_node n (node_at nodes j))) [
+      | inl t ↦ absurd (places_differ nodes d j k m l (ap (λ a. same_node a (node_at nodes k)) (sym (same_node_true n (node_at nodes j) t)) ∙ e))
+      | inr f ↦ f
+    ]) (λ _. e) in
+    sym (numbered_below _ _ (omega arith) ∙ ap Some place)
+
+-- a node that stands nowhere has none
+pub number_missing : (nodes : List Node) (n : Node) → ((j : ℕ) → j < length nodes → same_node n (node_at nodes j) ≡ false) → None ≡ number_of nodes n
+number_missing nodes n h =
+    let place : position_or_len (same_node n) nodes ≡ length nodes =
+    position_or_len_is (same_node n) nodes (length nodes) (Const false) (omega arith) h (λ l. absurd (omega arith)) in
+    sym (numbered_past _ _ (omega arith))
+
+-- and a node that is appended is entered with its hash
+pub entered_more : (nodes longer : List Node) (n : Node) (hashes more : List ℕ) (hash : ℕ) → hashes ≡ map hash_of nodes → longer ≡ nodes ++ n ∷ [] → hash ≡ hash_of n
+    → more ≡ hashes ++ hash ∷ [] → more ≡ map hash_of longer
+entered_more nodes longer n hashes more hash e f g h =
+    h ∙ (ap₂ (λ xs x. xs ++ x ∷ []) e g ∙ (sym (map-append hash_of nodes (n ∷ [])) ∙ ap (map hash_of) (sym f)))

@@ -11,8 +11,8 @@ use blic_basic::NoMem;
 use blic_model::{Bound, Formula, Lit, Node, Quant};
 use std::alloc::Global;
 
-/// The nodes of the formula's circuit, children before parents; equal nodes are one. The time grows
-/// with n log n, for n literals, clauses and levels.
+/// The nodes of the formula's circuit, children before parents; equal nodes are one. Nodes are looked up by their hash:
+/// on average the time grows with the number of literals, clauses and levels.
 pub fn nodes_of_formula(alloc: Global, formula: &Formula) -> Result<Vec<Node>, NoMem>
     ensures nodes { IfOk result (λ nodes. nodes.items ≡ (nodes_of formula.now).nodes) }
     ensures distinct { IfOk result (λ nodes. IsTrue (all_differ nodes.items)) }
@@ -20,7 +20,7 @@ pub fn nodes_of_formula(alloc: Global, formula: &Formula) -> Result<Vec<Node>, N
     formula.is_within_limits();
     let levels = level_table(alloc, formula)?;
     let marks = standing_table(alloc, formula)?;
-    let mut list = NodeList::new(alloc);
+    let mut list = NodeList::new(alloc)?;
     let matrix = add_matrix(&mut list, formula, &levels)?;
     add_levels(&mut list, formula, &marks, matrix)?;
     Ok(list.into_nodes())

@@ -12,8 +12,8 @@ use blic_model::{Circuit, CircuitError, Formula, circuit_law};
 use std::alloc::Global;
 
 /// The formula's circuit over the order with number `order`, by the rules of that version. There is
-/// order 0, in which level k is entry k of the prefix, and version 1. It takes time that grows with
-/// n log n, for n literals, clauses and levels, and with the free levels of its nodes.
+/// order 0, in which level k is entry k of the prefix, and version 1. On average it takes time that grows with the number
+/// of literals, clauses and levels, and with the free levels of its nodes.
 ///
 /// Too many claims are told before too many points.
 pub fn build(

@@ -138,3 +138,17 @@ start_read rows elements p k c r h lk lc =
       subst (λ z. z.start + c * z.width ≤ length elements) (sym same) w,
       ap (λ z. z.start + c * z.width) same ∙ ap (λ z. (row_at z.rows k).start + c * (row_at z.rows k).width) h.seen,
     )
+
+-- the point of a claim is in the list
+pub claim_room : (rows : List Row) (elements : List ℕ) (p : PointTable) (k c : ℕ) (r : Row) → ReadsRow rows elements p k r → k < length p.rows
+    → c < (row_at p.rows k).claims → (r.start + c * r.width + r.width ≤ length elements) × (r.width ≡ (row_at p.rows k).width)
+claim_room rows elements p k c r h lk lc =
+    let l : k < length rows = subst (λ z. k < length z.rows) (sym h.seen) lk in
+    let m : c < (row_at rows k).claims = subst (λ z. c < (row_at z.rows k).claims) (sym h.seen) lc in
+    let u = times_more c (row_at rows k).claims (row_at rows k).width m in
+    let room = spaced_room 0 rows (length elements) k h.are_spaced l in
+    let w : (row_at rows k).start + c * (row_at rows k).width + (row_at rows k).width ≤ length elements = omega arith in
+    let same = row_is rows k r l h.is_read in (
+      subst (λ z. z.start + c * z.width + z.width ≤ length elements) (sym same) w,
+      ap (λ z. z.width) same ∙ ap (λ z. (row_at z.rows k).width) h.seen,
+    )

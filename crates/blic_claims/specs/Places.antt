@@ -1,5 +1,5 @@
 -- Where the claims on each node are kept. The places of the claims that a parent hands down are fixed by the circuit.
-use Rattle.std.specs.Prelude.{ℕ, suc, ◌+◌, ◌*◌, ◌-◌, ◌==◌, ◌≡◌, ◌<◌, ◌≤◌, true, cond, List, slice_index_or, map, length, sum_by}
+use Rattle.std.specs.Prelude.{ℕ, suc, ◌+◌, ◌*◌, ◌-◌, ◌==◌, ◌≡◌, ◌<◌, ◌≤◌, ◌⊎◌, true, cond, List, slice_index_or, map, length, sum_by}
 use Rattle.blic_model.specs.declared.node.Node.{Node}
 use Rattle.blic_model.specs.declared.node.Node.TheVariants.{Const, Var, Not, Fix, And, Or}
 use Rattle.blic_model.specs.Circuit.{OrderedCircuit, node_at, root, below, free}
@@ -63,3 +63,7 @@ second_place l k = (slice_index_or l.handed k (0, 0)).1
 -- no binary node has more claims
 abbrev pub HasMostClaims : OrderedCircuit → ℕ → Type 0
 HasMostClaims circuit most = (k : ℕ) → k < length circuit.nodes → is_binary (node_at circuit.nodes k) ≡ true → claims circuit.nodes k ≤ most
+
+-- the claims of some binary node, or 0
+abbrev pub IsClaimsOfBinary : OrderedCircuit → ℕ → Type 0
+IsClaimsOfBinary circuit most = (most ≡ 0) ⊎ ((k : ℕ) × (k < length circuit.nodes) × (is_binary (node_at circuit.nodes k) ≡ true) × (claims circuit.nodes k ≡ most))

@@ -1,10 +1,12 @@
 -- The points of all claims of a circuit, as they are kept: an element for each claim and each free level of its node.
 use Rattle.std.specs.Prelude.{ℕ, suc, ◌+◌, ◌*◌, ◌-◌, ◌≡◌, ◌<◌, Bool, cond, ◌==◌, nat_lt, ◌&&◌, ◌||◌, List, [], ◌∷◌, slice_index_or, map, length}
+use Rattle.blic_field.specs.Quadratic.{Quadratic}
 use Rattle.blic_model.specs.declared.node.Node.{Node}
 use Rattle.blic_model.specs.declared.node.Node.TheVariants.{Const, Var, Not, Fix, And, Or}
 use Rattle.blic_model.specs.Circuit.{OrderedCircuit, node_at, below, free}
 use Rattle.blic_model.specs.Value.{Point, put, bit}
 use Rattle.blic_model.specs.Counts.{claims}
+use Rattle.blic_model.specs.Reduction.{poly}
 use Rattle.blic_claims.specs.Places.{Places, layout_of, row_at, first_place, second_place}
 use Rattle.blic_claims.specs.declared.layout.Row.{Row}
 
@@ -39,6 +41,10 @@ unfoldable pub stored_point : OrderedCircuit → PointTable → ℕ → ℕ → 
 stored_point circuit p k c =
     let levels = free circuit.nodes (length circuit.order) k in
     point_of levels (map (coordinate p k c) (below (length levels)))
+
+-- the polynomial of claim c on node k in the node's free level j
+abbrev pub stored_poly : OrderedCircuit → PointTable → ℕ → ℕ → ℕ → Quadratic
+stored_poly circuit p k j c = poly circuit.nodes (length circuit.order) k j (stored_point circuit p k c)
 
 -- free level j of every claim on a node becomes r, and nothing else changes
 abbrev pub Draws : PointTable → ℕ → ℕ → ℕ → PointTable → Type 0

@@ -4,7 +4,7 @@ ghost use Rattle.blic_model.specs.Circuit.{OrderedCircuit};
 ghost use Rattle.blic_model.specs.Counts.{claims as claims_of, draws as draws_of, bad as bad_of};
 ghost use Rattle.blic_claims.specs.Turns.{turns};
 ghost use Rattle.blic_claims.specs.Counters.{all_claims, rows_below, totals_below};
-ghost use Rattle.blic_claims.specs.Places.{layout_of, row_at, first_place, second_place, HasMostClaims};
+ghost use Rattle.blic_claims.specs.Places.{layout_of, row_at, first_place, second_place, HasMostClaims, IsClaimsOfBinary};
 
 use crate::counters::hand_all_down;
 use crate::totals::Totals;
@@ -111,7 +111,8 @@ impl Layout {
     /// The greatest number of claims on a binary node of the circuit, 0 where there is none.
     pub fn most_claims(&self, circuit: &Circuit) -> u32
         requires { self.now ≡ layout_of circuit.now }
-        ensures { HasMostClaims circuit.now result }
+        ensures most { HasMostClaims circuit.now result }
+        ensures exact { IsClaimsOfBinary circuit.now result }
     {
         let mut most = 0;
         for node in 0..circuit.nodes() {

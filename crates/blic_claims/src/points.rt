@@ -1,5 +1,5 @@
 // The points of all claims.
-ghost use Rattle.std.specs.Prelude.{◌≡◌, ◌<◌, ◌≤◌, ◌+◌, ◌*◌, length, IfOk};
+ghost use Rattle.std.specs.Prelude.{◌≡◌, ◌<◌, ◌≤◌, ◌+◌, ◌*◌, ℕ, length, slice_index, IfOk};
 ghost use Rattle.blic_model.specs.Circuit.{node_at};
 ghost use Rattle.blic_model.specs.Counts.{claims as claims_of};
 ghost use Rattle.blic_claims.specs.Places.{layout_of, row_at};
@@ -37,7 +37,8 @@ impl Points {
     /// Room for the points of all claims of the circuit, whose elements are 0.
     pub fn new(alloc: Global, circuit: &Circuit, layout: &Layout) -> Result<Points, NoMem>
         requires { layout.now ≡ layout_of circuit.now }
-        ensures { IfOk result (λ p. ArePointsOf p circuit.now) }
+        ensures points { IfOk result (λ p. ArePointsOf p circuit.now) }
+        ensures zero { IfOk result (λ p. (node claim j : ℕ) → coordinate_of p node claim j ≡ 0) }
     {
         circuit.is_within_limits();
         let rows = Vec::from_slice(alloc, layout.rows())?;
@@ -54,6 +55,20 @@ impl Points {
     {
         let row = self.rows[node as usize];
         self.elements[row.start + (claim as usize * row.width as usize + j as usize)]
+    }
+
+    /// The elements of a claim on a node, one for each free level of the node, topmost level first. They
+    /// are lent and not copied.
+    pub fn claim(&self, node: u32, claim: u32) -> &[Fe]
+        requires node { node < length self.now.rows }
+        requires claim { claim < (row_at self.now.rows node).claims }
+        ensures length { length result.now ≡ (row_at self.now.rows node).width }
+        ensures elements { (j : ℕ) → j < (row_at self.now.rows node).width → slice_index result.now j ≡ coordinate_of self.now node claim j }
+    {
+        let row = self.rows[node as usize];
+        let width = row.width as usize;
+        let start = row.start + claim as usize * width;
+        &self.elements[start..start + width]
     }
 
     /// Sets free level `j` of the node in every claim on it.

@@ -135,7 +135,8 @@ fn has_elements(
         if *claim >= row.claims || *j >= row.width {
             return false;
         }
-        if points.coordinate(*node, *claim, *j).value() != *element {
+        let lent = points.claim(*node, *claim)[*j as usize].value();
+        if points.coordinate(*node, *claim, *j).value() != *element || lent != *element {
             return false;
         }
     }

@@ -1,6 +1,5 @@
 // Sums over the first nodes of a circuit.
 ghost use Rattle.std.specs.Prelude.{◌≡◌, ◌+◌, IfOk};
-ghost use Rattle.blic_model.specs.Counts.{is_binary as is_binary_node};
 ghost use Rattle.blic_claims.specs.Counters.{both_totals, totals_of};
 
 use blic_basic::NoMem;
@@ -31,7 +30,7 @@ impl Totals {
         ensures { result ≡ totals_of claims width node }
     {
         let coordinates = u64::from(claims) * u64::from(width);
-        let binary = is_binary(node);
+        let binary = node.is_binary();
         Totals {
             coordinates,
             claims: u64::from(claims),
@@ -59,10 +58,4 @@ fn sum(a: u64, b: u64) -> Result<u64, NoMem>
     ensures { IfOk result (λ sum. sum ≡ a + b) }
 {
     a.checked_add(b).ok_or(NoMem)
-}
-
-fn is_binary(node: Node) -> bool
-    ensures { result ≡ is_binary_node node }
-{
-    matches!(node, Node::And(..) | Node::Or(..))
 }

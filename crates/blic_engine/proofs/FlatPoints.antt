@@ -42,12 +42,6 @@ coordinates_agree c s p k claim n point e h x f =
     sym (stored_is c p k claim (point_of point) x (λ i l. h i (omega arith))
     (free_contains c.nodes (length c.order) k x (free_below_levels c.nodes (length c.order) s x k f) f))
 
-pub elements_set : (point : List ℕ) (level element : ℕ) → level < length point → element < modulus → AreElements point → AreElements (set point level element)
-elements_set point level element l b h x = elim (cases_eq x level) [
-  | inl e ↦ subst (λ y. get_or (set point level element) y 0 < modulus) (sym e) (subst (λ z. z < modulus) (sym (get_or-set_same point level element 0 l)) b)
-  | inr n ↦ subst (λ z. z < modulus) (sym (get_or-set_other point level x element 0 (λ q. n q))) (h x)
-]
-
 elements_zero : (n : ℕ) → AreElements (replicate n 0)
 elements_zero n x = elim (cases_lt x n) [
   | inl l ↦ subst (λ z. z < modulus) (sym (get_or-replicate n x 0 0 l)) (omega arith)

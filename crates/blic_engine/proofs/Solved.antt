@@ -100,14 +100,6 @@ reached_from c plan k op a b e decisions first second reached ed ef es h =
     (subst (λ f. IsReached plan.store.nodes f second reached) (sym (ef ∙ ap (root_of plan) which.0))
     (subst (λ s. IsReached plan.store.nodes (root_of plan (operands (node_at c.nodes k)).0) s reached) (sym (es ∙ ap (root_of plan) which.1)) h))
 
-pub about_from : (c : OrderedCircuit) (plan : Solved) (k : ℕ) (op : Op) (a b : ℕ) → node_at c.nodes k ≡ node_of op a b → (decisions : List Decision) (first second : ℕ) (reached : List ℕ)
-    → decisions ≡ plan.store.nodes → first ≡ root_of plan a → second ≡ root_of plan b → IsReached decisions first second reached → IsAbout c.nodes plan k reached
-about_from c plan k op a b e decisions first second reached ed ef es h =
-    let which = operands_are (node_at c.nodes k) op a b e in
-    subst (λ s. IsReached plan.store.nodes (root_of plan (operands (node_at c.nodes k)).0) s reached) (es ∙ ap (root_of plan) which.1)
-    (subst (λ f. IsReached plan.store.nodes f second reached) (ef ∙ ap (root_of plan) which.0)
-    (subst (λ d. IsReached d first second reached) ed h))
-
 pub values_from : (c : OrderedCircuit) (plan : Solved) → IsShaped c.nodes (length c.order) → IsPlan c.nodes (length c.order) plan → (k : ℕ) → k < length c.nodes
     → (op : Op) (a b : ℕ) → node_at c.nodes k ≡ node_of op a b → (point : List ℕ) → AreElements point → (s : Point) → AgreesAt c.nodes k (point_of point) s
     → (decisions : List Decision) (first second levels : ℕ) → decisions ≡ plan.store.nodes → first ≡ root_of plan a → second ≡ root_of plan b → levels ≡ length c.order

@@ -1,4 +1,3 @@
 pub mod Costs
 pub mod Joins
-pub mod Polys
 pub mod Rooms

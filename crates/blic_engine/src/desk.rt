@@ -70,6 +70,8 @@ impl<'e> Answers for Desk<'e> {
 
     ghost most = { most_products };
 
+    ghost goes_on = { λ c p k i. Unit {0} };
+
     fn answer(&mut self) -> bool {
         self.engine.answer()
     }
@@ -79,6 +81,7 @@ impl<'e> Answers for Desk<'e> {
         points: &Points,
         node: u32,
         j: u32,
+        _on: bool,
         out: &mut [Poly2],
         steps: &mut Steps<L>,
     ) {
@@ -97,7 +100,13 @@ impl<'e> Answers for Desk<'e> {
         );
     }
 
-    fn values<L: Ledger>(&mut self, points: &Points, node: u32, steps: &mut Steps<L>) -> (Fe, Fe) {
+    fn values<L: Ledger>(
+        &mut self,
+        points: &Points,
+        node: u32,
+        _on: bool,
+        steps: &mut Steps<L>,
+    ) -> (Fe, Fe) {
         let circuit = self.engine.circuit();
         begin(circuit, self.plan, node, &mut self.about, &mut self.scratch);
         operand_values(

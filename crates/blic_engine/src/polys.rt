@@ -3,11 +3,10 @@ ghost use Rattle.std.specs.Prelude.{◌≡◌, ◌+◌, ◌*◌, ◌<◌, ◌≤
 ghost use Rattle.blic_model.specs.Circuit.{node_at, below, free};
 ghost use Rattle.blic_model.specs.Counts.{claims, is_binary};
 ghost use Rattle.blic_model.specs.Reduction.{poly as poly_of};
-ghost use Rattle.blic_claims.specs.Points.{ArePointsOf};
+ghost use Rattle.blic_claims.specs.Points.{ArePointsOf, stored_poly};
 ghost use Rattle.blic_eval.specs.Lines.{point_of};
 ghost use Rattle.blic_solve.specs.Plan.{IsPlan};
 ghost use Rattle.blic_engine.specs.Costs.{most_products};
-ghost use Rattle.blic_engine.specs.Polys.{stored_poly};
 ghost use Rattle.blic_engine.specs.Rooms.{HasRoom, IsAbout};
 
 use crate::join::join_of;

@@ -22,12 +22,6 @@ fn fix(level: u32, bit: bool, child: u32) -> Node {
     Node::Fix { level, bit, child }
 }
 
-fn is_binary(node: Node) -> bool
-    ensures { result ≡ is_binary_node node }
-{
-    matches!(node, Node::And(_, _) | Node::Or(_, _))
-}
-
 // The circuit of nodes that are one.
 fn circuit_of(alloc: Global, nodes: &[Node], order: &[u32]) -> Result<Circuit, Fail> {
     let nodes = nodes.to_vec(alloc)?;
@@ -101,7 +95,7 @@ fn polys<A: Answers, L: Ledger>(
     ensures { A.circuit answers.new ≡ A.circuit answers.old }
 {
     let mut steps = Steps::<L>::new(blank);
-    answers.polys(points, node, j, out, &mut steps);
+    answers.polys(points, node, j, false, out, &mut steps);
 }
 
 // The values of a binary node's operands, where it has one claim.
@@ -121,7 +115,7 @@ fn values<A: Answers, L: Ledger>(
     ensures { A.circuit answers.new ≡ A.circuit answers.old }
 {
     let mut steps = Steps::<L>::new(blank);
-    answers.values(points, node, &mut steps)
+    answers.values(points, node, false, &mut steps)
 }
 
 // Whether the polynomials of the claims on a binary node are those by the definitions.
@@ -221,7 +215,7 @@ fn same_conversation(
     let mut node = circuit.nodes();
     while node > 0 {
         node -= 1;
-        if is_binary(circuit.node(node)) {
+        if circuit.node(node).is_binary() {
             same = same_answers(alloc, circuit, layout, points, node, desk)? && same;
         }
         points.hand_down(circuit, layout, node);

@@ -1,17 +1,17 @@
 -- Claims handed down from the root, one node after another.
-use Rattle.std.proofs.Common.{arith, ℕ, zero, suc, ◌≡◌, ◌+◌, ◌-◌, ◌*◌, ◌<◌, ◌≤◌, refl, sym, ◌∙◌, ap, ◌⊎◌, inl, inr, List, [], ◌∷◌, length, get_or, take, Bool, true, false, cond, ◌==◌, nat_lt}
+use Rattle.std.proofs.Common.{arith, ℕ, zero, suc, ◌≡◌, ◌+◌, ◌-◌, ◌*◌, ◌<◌, ◌≤◌, refl, sym, ◌∙◌, ap, ◌⊎◌, inl, inr, List, [], ◌∷◌, ◌++◌, length, get_or, take, drop, Bool, true, false, cond, ◌==◌, nat_lt}
 use Rattle.std.specs.Prelude.{sum, sum_by, slice_set}
 use mathlib.Core.Path.{ap₂}
 use Rattle.std.proofs.lemmas.Bool.{cases_eq, eq-eqb, ne_eqb, ltb-true, and_parts, cond-false}
-use Rattle.std.proofs.lemmas.List.{take_all}
-use Rattle.std.proofs.lemmas.List.Sums.{sum_by-cons}
+use Rattle.std.proofs.lemmas.List.{take_all, drop_all, drop-append-le}
+use Rattle.std.proofs.lemmas.List.Sums.{sum_by-cons, sum_by_push}
 use Rattle.blic_model.specs.declared.node.Node.{Node}
 use Rattle.blic_model.specs.declared.node.Node.TheVariants.{Const, Var, Not, Fix, And, Or}
 use Rattle.blic_model.specs.Circuit.{node_at, root, below, table}
 use Rattle.blic_model.specs.Counts.{is_binary, handed_down, claims_entry, claims}
 use Rattle.blic_model.specs.Shape.{children_below}
 use Rattle.blic_model.specs.CircuitTables.{binary_claims, IsTabled, HasClaims}
-use Rattle.blic_model.proofs.ChildEntries.{entry_of_table, sum_below_none, sum_below_more, sum_below_next, sum_below_agree, sum_below_le}
+use Rattle.blic_model.proofs.ChildEntries.{entry_of_table, length_of_below, sum_below_none, sum_below_more, sum_below_next, sum_below_agree, sum_below_le}
 
 sum_more : (x : ℕ) (xs : List ℕ) → sum (x ∷ xs) ≡ x + sum xs
 sum_more x xs = sum_by-cons (λ y. y) x xs
@@ -67,7 +67,7 @@ handed_nothing i k m (Fix x b a) h l = (let lt = ltb-true a i h in ap (λ b. con
 handed_nothing i k m (And a b) h l = two_nothing i k a b (and_parts _ _ h).0 (and_parts _ _ h).1 l
 handed_nothing i k m (Or a b) h l = two_nothing i k a b (and_parts _ _ h).0 (and_parts _ _ h).1 l
 
-first_claims : (nodes : List Node) → claims nodes (root nodes) ≡ 1
+pub first_claims : (nodes : List Node) → claims nodes (root nodes) ≡ 1
 unfolding claims
 first_claims nodes = (let e : root nodes - root nodes ≡ 0 = omega arith in ap (λ n. claims_entry nodes n (table (claims_entry nodes) n)) e)
 
@@ -95,6 +95,52 @@ reached nodes k zero l e =
     let q : k ≡ root nodes = omega arith in
     handed_by_none nodes k ∙ (ap (λ b. cond b 1 0) (eq-eqb k (root nodes) q) ∙ (sym (first_claims nodes) ∙ ap (claims nodes) (sym q)))
 reached nodes k (suc n) l e = sym (claims_when_reached nodes k n e)
+
+-- a sum from r down, with what is left of the sum up to r
+sum_from_top : (f : ℕ → ℕ) (r p q : ℕ) → p + q ≡ suc r → sum_by (λ j. f (r - j)) (below p) + sum_by f (below q) ≡ sum_by f (below (suc r))
+sum_from_top f r zero q e =
+    let whole = ap (λ n. sum_by f (below n)) (let s : q ≡ suc r = omega arith in s) in
+    omega (arith, sum_below_none (λ j. f (r - j)))
+sum_from_top f r (suc p) q e =
+    let place : r - p ≡ q = omega arith in
+    let here = ap f place in
+    omega (arith, sum_below_more (λ j. f (r - j)) p, sum_below_more f q, sum_from_top f r p (suc q) (omega arith))
+
+below_more : (n : ℕ) → below (suc n) ≡ below n ++ n ∷ []
+unfolding below
+below_more n = refl
+
+-- the sum past the first m numbers, with that of the first m
+sum_past : (f : ℕ → ℕ) (m n : ℕ) → m ≤ n → sum_by f (below m) + sum_by f (drop m (below n)) ≡ sum_by f (below n)
+sum_past f m zero l =
+    let none = ap (sum_by f) (drop_all m (below zero) (omega (arith, length_of_below zero))) in
+    let e : m ≡ zero = omega arith in
+    let same = ap (λ n. sum_by f (below n)) e in
+    omega (arith, sum_below_none f)
+sum_past f m (suc n) l =
+    elim (cases_eq m (suc n)) [
+      | inl e ↦
+          let none = ap (sum_by f) (drop_all m (below (suc n)) (omega (arith, length_of_below (suc n)))) in
+          let same = ap (λ n. sum_by f (below n)) e in
+          omega arith
+      | inr ne ↦
+          let more = ap (λ ns. sum_by f (drop m ns)) (below_more n) ∙ (ap (sum_by f) (drop-append-le m (below n) (n ∷ []) (omega (arith, length_of_below n))) ∙ sum_by_push f (drop m (below n)) n) in
+          omega (arith, sum_past f m n (omega arith), sum_below_more f n)
+    ]
+
+-- the claims of a node but the root, as a sum over the nodes after it
+pub claims_from_above : (nodes : List Node) (k : ℕ) → k < root nodes
+    → claims nodes k ≡ sum_by (λ j. handed_down (node_at nodes j) (claims nodes j) k) (drop (k + 1) (below (length nodes)))
+unfolding handed_by
+claims_from_above nodes k l =
+    let f = λ (j : ℕ). handed_down (node_at nodes j) (claims nodes j) k in
+    let own : ◌≡◌ {A = ℕ} (cond (k == root nodes) 1 0) 0 = no_own_claim k (root nodes) (λ q. omega arith) in
+    let all = reached nodes k (root nodes - k) (omega arith) refl in
+    let long : length nodes ≡ suc (root nodes) = omega arith in
+    let top = sum_from_top f (root nodes) (root nodes - k) (k + 1) (omega arith) in
+    let past = sum_past f (k + 1) (length nodes) (omega arith) in
+    let same = ap (λ n. sum_by f (below n)) long in
+    omega arith
 
 -- nothing more is handed to a node that was reached
 pub handed_by_all : (nodes : List Node) (k p : ℕ) → ((i : ℕ) → i < length nodes → children_below i (node_at nodes i) ≡ true)

@@ -115,14 +115,14 @@ unfolding below
 below_rises zero = tt
 below_rises (suc n) = rises_push n (below n) (below_are_below n) (below_rises n)
 
-filter_missing : (n y : ℕ) → n ≤ y → filter (λ x. x == y) (below n) ≡ []
+pub filter_missing : (n y : ℕ) → n ≤ y → filter (λ x. x == y) (below n) ≡ []
 unfolding below
 filter_missing zero y l = refl
 filter_missing (suc n) y l =
     filter-append (λ x. x == y) (below n) (n ∷ [])
     ∙ ap₂ (λ xs ys. xs ++ ys) (filter_missing n y (omega arith)) (cond-false (n == y) (n ∷ []) [] (ne_eqb n y (λ e. omega arith)))
 
-filter_one : (n y : ℕ) → y < n → filter (λ x. x == y) (below n) ≡ y ∷ []
+pub filter_one : (n y : ℕ) → y < n → filter (λ x. x == y) (below n) ≡ y ∷ []
 unfolding below
 filter_one zero y l = absurd (omega arith)
 filter_one (suc n) y l =

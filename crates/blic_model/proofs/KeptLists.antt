@@ -37,3 +37,6 @@ made_points nodes read levels r e f = f ∙ ap (λ ns. points ns levels) e
 
 pub tabled_read : (nodes read : List Node) (levels : ℕ) → IsShaped nodes levels → read ≡ nodes → IsTabled read
 tabled_read nodes read levels shaped e = subst IsTabled (sym e) (tabled_from_shaped nodes levels shaped).0
+
+pub levels_read : (nodes read : List Node) (levels : ℕ) → IsShaped nodes levels → read ≡ nodes → (most : ℕ) × HasLevels read most
+levels_read nodes read levels shaped e = (levels, subst (λ ns. HasLevels ns levels) (sym e) (tabled_from_shaped nodes levels shaped).1)

@@ -20,6 +20,7 @@ mod InRange
 mod KeptLists
 mod LastNode
 mod Leaves
+mod LeftOut
 mod LevelBits
 mod LevelOf
 pub mod LinearValues

@@ -1,5 +1,5 @@
 -- Points, some levels after others.
-use Rattle.std.proofs.Common.{arith, ℕ, zero, suc, ◌≡◌, ◌+◌, ◌*◌, ◌<◌, ◌≤◌, refl, sym, ◌∙◌, ap, List, length, get_or, Bool, true, false, cond}
+use Rattle.std.proofs.Common.{arith, ℕ, zero, suc, ◌≡◌, ◌+◌, ◌*◌, ◌<◌, ◌≤◌, refl, sym, ◌∙◌, ap, List, [], length, get_or, Bool, true, false, cond}
 use Rattle.std.specs.Prelude.{sum_by, filter}
 use mathlib.Core.Path.{ap₂}
 use Rattle.std.proofs.Math.Nat.{mul-le-mul_left, mul-add}
@@ -7,8 +7,10 @@ use Rattle.blic_model.specs.declared.node.Node.{Node}
 use Rattle.blic_model.specs.Circuit.{node_at, below, is_free, free}
 use Rattle.blic_model.specs.Counts.{is_binary, claims, points}
 use Rattle.blic_model.specs.CircuitTables.{IsTabled, HasLevels, binary_claims, points_at, HasClaims}
+use Rattle.blic_model.specs.LevelLists.{free_lists}
 use Rattle.blic_model.specs.LevelSets.{levels_from}
 use Rattle.blic_model.proofs.ChildEntries.{length_of_below, sum_below_none, sum_below_more, sum_below_next, sum_below_agree, sum_below_le}
+use Rattle.blic_model.proofs.FreeLists.{entry_of_lists}
 use Rattle.blic_model.proofs.FreeCounts.{passing_few, passing_join, free_past}
 
 bounded : (b : Bool) (c f most : ℕ) → f ≤ most → cond b (c * f) 0 ≤ cond b c 0 * most
@@ -78,3 +80,14 @@ next_other nodes levels k j p e b f =
 pub points_small : (nodes : List Node) (counts : List ℕ) (first : ℕ) → HasClaims nodes counts → length nodes ≤ 4194304 → first ≤ 4294967552 → points nodes first < 18446744073709551616
 unfolding points free
 points_small nodes counts first c few l = points_fit nodes counts (below first) (length nodes) c few (omega (arith, length_of_below first)) (omega arith)
+
+-- a node's free levels, as the lists have them
+pub listed_len : (nodes : List Node) (levels k z : ℕ) (lists : List (List ℕ)) → lists ≡ free_lists nodes levels (length nodes) → k < length nodes → z ≡ length (get_or lists k [])
+    → z ≡ length (filter (is_free nodes k) (below levels))
+unfolding free
+listed_len nodes levels k z lists e l f = f ∙ (ap (λ ls. length (get_or ls k [])) e ∙ ap length (entry_of_lists nodes levels (length nodes) k l))
+
+-- points are those at all levels
+pub points_is : (nodes : List Node) (levels : ℕ) → points nodes levels ≡ sum_by (points_at nodes (below levels)) (below (length nodes))
+unfolding points free
+points_is nodes levels = refl

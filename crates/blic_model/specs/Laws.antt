@@ -1,15 +1,15 @@
 -- What holds of the values of circuits, of their degree reduction, and of the circuits of formulas. Nothing is assumed of the modulus.
-use Rattle.std.specs.Prelude.{◌≡◌, ◌+◌, ◌<◌, ℕ, Bool, true, List, slice_index_or, length}
+use Rattle.std.specs.Prelude.{◌≡◌, ◌+◌, ◌<◌, ℕ, Bool, true, List, slice_index_or, length, drop, sum_by}
 use Rattle.blic_field.specs.Field.{modulus}
 use Rattle.blic_field.specs.Quadratic.{Quadratic, at, HasElements}
 use Rattle.blic_model.specs.declared.node.Node.{Node}
 use Rattle.blic_model.specs.Formula.{PrenexFormula}
 use Rattle.blic_model.specs.Limits.{IsFormula}
 use Rattle.blic_model.specs.Truth.{truth}
-use Rattle.blic_model.specs.Circuit.{node_at, root, is_free, free}
+use Rattle.blic_model.specs.Circuit.{node_at, root, below, free_step, is_free, free}
 use Rattle.blic_model.specs.Building.{circuit_of}
-use Rattle.blic_model.specs.Value.{Point, put, bit, holds, linearize, value}
-use Rattle.blic_model.specs.Counts.{is_binary}
+use Rattle.blic_model.specs.Value.{Point, RootIs, put, bit, holds_step, holds, linearize, value_step, value}
+use Rattle.blic_model.specs.Counts.{is_binary, handed_down, claims}
 use Rattle.blic_model.specs.Reduction.{combined, part, poly}
 use Rattle.blic_model.specs.Degree.{IsPoint, GivesElements, IsLinear, IsQuadratic, DependsOn}
 use Rattle.blic_model.specs.Order.{IsOrdered}
@@ -17,6 +17,38 @@ use Rattle.blic_model.specs.Order.{IsOrdered}
 -- free level i of node k
 abbrev pub free_level : List Node → ℕ → ℕ → ℕ → ℕ
 free_level nodes levels k i = slice_index_or (free nodes levels k) i 0
+
+-- whether a node depends on a level follows from whether its children do
+abbrev pub FreeFollowsChildren : Type 0
+FreeFollowsChildren =
+    (nodes : List Node) → IsOrdered nodes → (k : ℕ) → k < length nodes
+    → (x : ℕ) → is_free nodes k x ≡ free_step k (node_at nodes k) (is_free nodes) x
+
+-- a node's Boolean value follows from those of its children
+abbrev pub HoldsFollowsChildren : Type 0
+HoldsFollowsChildren =
+    (nodes : List Node) → IsOrdered nodes → (k : ℕ) → k < length nodes
+    → (a : ℕ → Bool) → holds nodes k a ≡ holds_step k (node_at nodes k) (holds nodes) a
+
+-- a node's value at a point follows from the values of its children
+abbrev pub ValueFollowsChildren : Type 0
+ValueFollowsChildren =
+    (nodes : List Node) (levels : ℕ) → IsOrdered nodes → (k : ℕ) → k < length nodes
+    → (s : Point) → value nodes levels k s ≡ value_step nodes levels k (node_at nodes k) (value nodes levels) s
+
+-- the numbers of the nodes after node k, up to the root
+abbrev pub numbers_after : List Node → ℕ → List ℕ
+numbers_after nodes k = drop (k + 1) (below (length nodes))
+
+-- the root has one claim
+abbrev pub RootHasOneClaim : Type 0
+RootHasOneClaim = (nodes : List Node) → claims nodes (root nodes) ≡ 1
+
+-- another node has the sum of the claims that the nodes after it hand down to it
+abbrev pub ClaimsFollowParents : Type 0
+ClaimsFollowParents =
+    (nodes : List Node) (k : ℕ) → k < root nodes
+    → claims nodes k ≡ sum_by (λ j. handed_down (node_at nodes j) (claims nodes j) k) (numbers_after nodes k)
 
 -- at a point of bits a node's value is its Boolean value
 abbrev pub ValueIsBoolean : Type 0
@@ -82,6 +114,4 @@ PolyIsUnique =
 
 -- the value of the root of a formula's circuit is the formula's truth, at every point
 abbrev pub RootValueIsTruth : Type 0
-RootValueIsTruth =
-    (f : PrenexFormula) → IsFormula f → (s : Point)
-    → value (circuit_of f).nodes (length (circuit_of f).order) (root (circuit_of f).nodes) s ≡ bit (truth f)
+RootValueIsTruth = (f : PrenexFormula) → IsFormula f → RootIs (circuit_of f) (truth f)

@@ -1,5 +1,5 @@
 -- Lists of levels that stand in one list; only the free levels of circuits are stored so.
-use Rattle.std.specs.Prelude.{ℕ, ◌-◌, cond, not, ◌==◌, nat_lt, List, [], ◌∷◌, take, drop, filter, map, slice_index_or}
+use Rattle.std.specs.Prelude.{ℕ, ◌-◌, ◌≤◌, cond, not, ◌==◌, nat_lt, List, [], ◌∷◌, take, drop, filter, length, map, slice_index_or}
 use Rattle.blic_model.specs.declared.node.Node.{Node}
 use Rattle.blic_model.specs.declared.node.Node.TheVariants.{Const, Var, Not, Fix, And, Or}
 use Rattle.blic_model.specs.Circuit.{below, free}
@@ -7,6 +7,10 @@ use Rattle.blic_model.specs.Circuit.{below, free}
 -- the elements from one place to another
 unfoldable pub stretch : List ℕ → ℕ → ℕ → List ℕ
 stretch levels start end = take (end - start) (drop start levels)
+
+-- the level stands in the list at most once
+abbrev pub StandsOnce : ℕ → List ℕ → Type 0
+StandsOnce level levels = length (filter (λ x. x == level) levels) ≤ 1
 
 -- the number is put into a rising list, before what the rest is joined to
 abbrev pub put_in : ℕ → (List ℕ → List ℕ) → List ℕ → List ℕ

@@ -1,9 +1,9 @@
 -- What a node means: its Boolean value at an assignment of the levels, and its value at a point (arithmetization).
-use Rattle.std.specs.Prelude.{ℕ, Bool, false, cond, not, ◌&&◌, ◌||◌, ◌==◌, List, fold}
+use Rattle.std.specs.Prelude.{ℕ, ◌≡◌, Bool, false, cond, not, ◌&&◌, ◌||◌, ◌==◌, List, fold, length}
 use Rattle.blic_field.specs.Field.{mul, sub, or, blend}
 use Rattle.blic_model.specs.declared.node.Node.{Node}
 use Rattle.blic_model.specs.declared.node.Node.TheVariants.{Const, Var, Not, Fix, And, Or}
-use Rattle.blic_model.specs.Circuit.{at_node, free}
+use Rattle.blic_model.specs.Circuit.{OrderedCircuit, at_node, free, root}
 
 -- s with level x set to t
 abbrev pub put : {A : Type 0} → (ℕ → A) → ℕ → A → ℕ → A
@@ -44,3 +44,7 @@ value_step nodes levels k (Or a b) value s = fold linearize (λ r. or (value a r
 
 unfoldable pub value : List Node → ℕ → ℕ → Point → ℕ
 value nodes levels = at_node (λ s. 0) (value_step nodes levels) nodes
+
+-- the value of the circuit's root is the bit, at every point
+abbrev pub RootIs : OrderedCircuit → Bool → Type 0
+RootIs c t = (s : Point) → value c.nodes (length c.order) (root c.nodes) s ≡ bit t

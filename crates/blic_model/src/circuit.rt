@@ -14,15 +14,19 @@ use crate::shape::is_shaped;
 use blic_basic::NoMem;
 use std::alloc::Global;
 use std::marker::Model;
+use thiserror::Error;
 
 /// Why nodes make no circuit that a conversation is held about.
-#[derive(Clone, Copy, Debug, PartialEq, Eq)]
+#[derive(Clone, Copy, Debug, PartialEq, Eq, Error)]
 pub enum CircuitError {
     /// A binary node has more than 65,536 claims: the greatest such node, and how many it has.
+    #[error("node {node} has {claims} claims, and may have 65536")]
     TooManyClaims { node: u32, claims: u64 },
     /// No node has too many claims, but there are more than 16,777,216 points: how many.
+    #[error("the claims have {points} points, and may have 16777216")]
     TooManyPoints { points: u64 },
     /// Memory ran out.
+    #[error("memory ran out")]
     NoMem,
 }
 
@@ -52,7 +56,7 @@ impl Model for Circuit {
 impl Circuit {
     /// The circuit of these nodes over an order from level to variable. `shaped` tests the
     /// condition. Too many claims are told before too many points.
-    #[tactic(auto, using(crate::proofs::KeptLists::tabled_read))]
+    #[tactic(auto, using(crate::proofs::KeptLists::tabled_read, crate::proofs::KeptLists::levels_read))]
     pub fn new(
         alloc: Global,
         nodes: Vec<Node>,

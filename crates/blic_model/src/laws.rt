@@ -5,7 +5,7 @@ ghost use Rattle.blic_model.specs.Building.{circuit_of, nodes_of};
 ghost use Rattle.blic_model.specs.Circuit.{is_free, node_at, root};
 ghost use Rattle.blic_model.specs.Formula.{PrenexFormula};
 ghost use Rattle.blic_model.specs.Limits.{IsFormula};
-ghost use Rattle.blic_model.specs.Laws.{FirstPart, LastPart, NextPart, PartDependsOnFree, PartIsQuadratic, PolyGivesPart, PolyHasElements, PolyIsUnique, ReducedIsLinear, RootValueIsTruth, ValueDependsOnFree, ValueIsBoolean, ValueIsElement, ValueIsLinear};
+ghost use Rattle.blic_model.specs.Laws.{ClaimsFollowParents, FirstPart, FreeFollowsChildren, HoldsFollowsChildren, LastPart, NextPart, PartDependsOnFree, PartIsQuadratic, PolyGivesPart, PolyHasElements, PolyIsUnique, ReducedIsLinear, RootHasOneClaim, RootValueIsTruth, ValueDependsOnFree, ValueFollowsChildren, ValueIsBoolean, ValueIsElement, ValueIsLinear};
 ghost use Rattle.blic_model.specs.Order.{IsOrdered};
 ghost use Rattle.blic_model.specs.Shape.{IsShaped, is_child, levels_below};
 ghost use Rattle.blic_model.specs.declared.node.Node.{Node};
@@ -19,6 +19,18 @@ pub fn shape_law()
     ensures distinct { (nodes : List Node) (levels : ℕ) → IsShaped nodes levels → (i j : ℕ) → i < j → j < length nodes → node_at nodes i ≡ node_at nodes j → ⊥ }
     ensures child { (nodes : List Node) (levels : ℕ) → IsShaped nodes levels → (k : ℕ) → k < root nodes → list_any (is_child k) nodes ≡ true }
     ensures closed { (nodes : List Node) (levels : ℕ) → IsShaped nodes levels → (x : ℕ) → x < levels → is_free nodes (root nodes) x ≡ false }
+{}
+
+/// What `is_free`, `holds`, `value` and `claims` are, as equations from one node to others: what a node depends on, its
+/// Boolean value and its value at a point follow from those of its children, and its claims from those of its parents.
+/// With induction on the numbers of nodes these equations determine all four, so that they can be read without the
+/// tables by which they are defined.
+pub fn steps_law()
+    ensures free { FreeFollowsChildren }
+    ensures holds { HoldsFollowsChildren }
+    ensures value { ValueFollowsChildren }
+    ensures root_claim { RootHasOneClaim }
+    ensures claims { ClaimsFollowParents }
 {}
 
 /// At a point of zeros and ones a node's value is its Boolean value.

@@ -1,15 +1,15 @@
 // Lists of levels that stand in one list.
-ghost use Rattle.std.specs.Prelude.{◌≡◌, ◌≤◌, ◌<◌, ◌+◌, ◌++◌, ◌∷◌, ◌==◌, ℕ, List, [], length, not, true, filter, IfOk, OnOk, slice_index, slice_index_or};
+ghost use Rattle.std.specs.Prelude.{◌≡◌, ◌≤◌, ◌<◌, ◌+◌, ◌++◌, ◌∷◌, ◌==◌, ℕ, List, [], length, not, true, filter, IfOk, IfSome, OnOk, slice_index, slice_index_or};
 ghost use Rattle.std.specs.Prelude.{◌⊎◌};
 ghost use Rattle.std.specs.List.{position_or_len};
-ghost use Rattle.blic_model.specs.LevelLists.{stretch, merged};
+ghost use Rattle.blic_model.specs.LevelLists.{stretch, merged, StandsOnce};
 ghost use Rattle.blic_model.specs.Stretches.{IsInside, BeginsWith, IsAt, IsMergedUpTo};
 
 use blic_basic::NoMem;
 use std::alloc::Global;
 use std::marker::Model;
 
-/// Lists of levels, seen as their list. One that is the front of an earlier one takes no room.
+/// Lists of levels, seen as their list. One that is a part of an earlier one takes no room.
 #[derive(Drop)]
 pub(crate) struct LevelLists {
     levels: Vec<u32>,
@@ -53,6 +53,11 @@ impl LevelLists {
         at.end - at.start
     }
 
+    /// For how many levels the lists take room.
+    pub(crate) fn room(&self) -> usize {
+        self.levels.len()
+    }
+
     /// Level `i` of list `k`.
     pub(crate) fn level(&self, k: usize, i: usize) -> u32
         requires list { k < length self.now }
@@ -94,9 +99,10 @@ impl LevelLists {
         Ok(())
     }
 
-    /// Adds list `k` without a level.
+    /// Adds list `k` without a level, which stands in it at most once.
     pub(crate) fn push_without(&mut self, k: usize, level: u32) -> Result<(), NoMem>
-        requires { k < length self.old }
+        requires list { k < length self.old }
+        requires once { StandsOnce level (slice_index_or self.old k []) }
         ensures { OnOk result (self.new ≡ self.old ++ filter (λ x. not (x == level)) (slice_index_or self.old k []) ∷ []) }
     {
         let at = self.stretches[k];
@@ -119,19 +125,15 @@ impl LevelLists {
     }
 }
 
-// The stretch without a level: a front of it, or one at the end.
+// The stretch without a level, which stands in it at most once: a part of it, or one at the end.
 fn without(levels: &mut Vec<u32>, at: Stretch, left_out: u32) -> Result<Stretch, NoMem>
-    requires { IsInside (length levels.old.items) at }
+    requires inside { IsInside (length levels.old.items) at }
+    requires once { StandsOnce left_out (stretch levels.old.items at.start at.end) }
     ensures kept { BeginsWith levels.new.items levels.old.items }
     ensures made { IfOk result (λ s. IsAt levels.new.items s (filter (λ x. not (x == left_out)) (stretch levels.old.items at.start at.end))) }
 {
-    let front = place_of(&levels[at.start..at.end], left_out);
-    let behind = at.end - at.start - front;
-    if behind <= 1 {
-        return Ok(Stretch {
-            start: at.start,
-            end: at.start + front,
-        });
+    if let Some(part) = part_without(levels, at, left_out) {
+        return Ok(part);
     }
     let start = levels.len();
     copy_without(levels, at, left_out)?;
@@ -139,6 +141,34 @@ fn without(levels: &mut Vec<u32>, at: Stretch, left_out: u32) -> Result<Stretch,
         start,
         end: levels.len(),
     })
+}
+
+// The part that is left of a stretch without a level; none if the level stands between others.
+fn part_without(levels: &[u32], at: Stretch, left_out: u32) -> Option<Stretch>
+    requires inside { IsInside (length levels.now) at }
+    requires once { StandsOnce left_out (stretch levels.now at.start at.end) }
+    ensures { IfSome result (λ s. IsAt levels.now s (filter (λ x. not (x == left_out)) (stretch levels.now at.start at.end))) }
+{
+    let Stretch { start, end } = at;
+    if start == end {
+        return Some(at);
+    }
+    if levels[start] == left_out {
+        return Some(Stretch {
+            start: start + 1,
+            end,
+        });
+    }
+    if levels[end - 1] == left_out {
+        return Some(Stretch {
+            start,
+            end: end - 1,
+        });
+    }
+    if place_of(&levels[start..end], left_out) < end - start {
+        return None;
+    }
+    Some(at)
 }
 
 // The place of a level, or the length where there is none.

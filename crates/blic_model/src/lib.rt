@@ -17,7 +17,9 @@ mod shape;
 
 pub use circuit::{Circuit, CircuitError};
 pub use formula::{Formula, Lit};
-pub use laws::{boolean_value_law, circuit_law, dependence_law, reduction_law, shape_law};
+pub use laws::{
+    boolean_value_law, circuit_law, dependence_law, reduction_law, shape_law, steps_law,
+};
 pub use node::Node;
 pub use prefix::{Bound, Quant};
 

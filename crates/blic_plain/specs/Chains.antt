@@ -1,12 +1,10 @@
 -- The points that the recursion goes through.
-use Rattle.std.specs.Prelude.{ℕ, ◌<◌, length}
+use Rattle.std.specs.Prelude.{◌<◌, length}
 use Rattle.blic_model.specs.Circuit.{OrderedCircuit}
 use Rattle.blic_model.specs.Value.{Point, put}
 use Rattle.blic_model.specs.Counts.{claims}
-use Rattle.blic_model.specs.Reduction.{poly}
-use Rattle.blic_field.specs.Quadratic.{Quadratic}
 use Rattle.blic_claims.specs.Claims.{zero_point}
-use Rattle.blic_claims.specs.Points.{PointTable, ArePointsOf, stored_point}
+use Rattle.blic_claims.specs.Points.{ArePointsOf, stored_point}
 use Rattle.blic_plain.specs.declared.chain.Chain.{Chain, Zero, Stored, With'}
 
 -- the point that a chain stands for
@@ -20,7 +18,3 @@ abbrev pub IsChainOf : OrderedCircuit → Chain → Type 0
 IsChainOf c Zero = Unit {0}
 IsChainOf c (Stored points node claim) = ArePointsOf points.now c × (node < length c.nodes) × (claim < claims c.nodes node)
 IsChainOf c (With' level element p rest) = IsChainOf c rest
-
--- the polynomial of a claim on a node in its free level j
-abbrev pub stored_poly : OrderedCircuit → PointTable → ℕ → ℕ → ℕ → Quadratic
-stored_poly c points node j claim = poly c.nodes (length c.order) node j (stored_point c points node claim)

@@ -47,6 +47,8 @@ impl<'c> Answers for Plain<'c> {
 
     ghost most = { λ c k. products c.nodes (length c.order) k };
 
+    ghost goes_on = { λ c p k i. Unit {0} };
+
     fn answer(&mut self) -> bool {
         root_value::<Brand>(self.circuit, Blank::new(1)) == Fe::ONE
     }
@@ -56,13 +58,20 @@ impl<'c> Answers for Plain<'c> {
         points: &Points,
         node: u32,
         j: u32,
+        _on: bool,
         out: &mut [Poly2],
         steps: &mut Steps<L>,
     ) {
         fill(self.circuit, points, node, j, out, steps);
     }
 
-    fn values<L: Ledger>(&mut self, points: &Points, node: u32, steps: &mut Steps<L>) -> (Fe, Fe) {
+    fn values<L: Ledger>(
+        &mut self,
+        points: &Points,
+        node: u32,
+        _on: bool,
+        steps: &mut Steps<L>,
+    ) -> (Fe, Fe) {
         operand_values(self.circuit, points, node, steps)
     }
 

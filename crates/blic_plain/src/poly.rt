@@ -4,8 +4,8 @@ ghost use Rattle.blic_field.specs.Field.{add, half as half_of, mul, sub};
 ghost use Rattle.blic_model.specs.Circuit.{node_at, below, free};
 ghost use Rattle.blic_model.specs.Counts.{claims, is_binary};
 ghost use Rattle.blic_model.specs.Reduction.{poly as poly_of};
-ghost use Rattle.blic_claims.specs.Points.{ArePointsOf};
-ghost use Rattle.blic_plain.specs.Chains.{IsChainOf, point_of_chain, stored_poly};
+ghost use Rattle.blic_claims.specs.Points.{ArePointsOf, stored_poly};
+ghost use Rattle.blic_plain.specs.Chains.{IsChainOf, point_of_chain};
 ghost use Rattle.blic_plain.specs.Products.{products};
 
 use crate::chain::Chain;

@@ -1,7 +1,6 @@
 // The answers about a circuit of two levels that differ, against worked rows.
 ghost use Rattle.std.specs.Prelude.{◌≡◌, ◌<◌, ◌≤◌, length};
 ghost use Rattle.blic_model.specs.Circuit.{free};
-ghost use Rattle.blic_model.specs.Counts.{is_binary as is_binary_node};
 ghost use Rattle.blic_claims.specs.Places.{layout_of};
 ghost use Rattle.blic_claims.specs.Points.{ArePointsOf, HasOnePoint};
 
@@ -43,12 +42,6 @@ fn exclusive_or(alloc: Global) -> Result<Circuit, Fail> {
         return Err(Fail::from("no circuit"));
     }
     Ok(Circuit::new(alloc, nodes, order, 1)?)
-}
-
-fn is_binary(node: Node) -> bool
-    ensures { result ≡ is_binary_node node }
-{
-    matches!(node, Node::And(_, _) | Node::Or(_, _))
 }
 
 // Hands the points of these nodes down, one after another.
@@ -94,12 +87,12 @@ fn polys_counted<L: Ledger>(
     requires some { 0 < L.parts }
 {
     if node < circuit.nodes()
-        && is_binary(circuit.node(node))
+        && circuit.node(node).is_binary()
         && j < circuit.free_count(node)
         && out.len() == layout.claims(node) as usize
     {
         let mut steps = Steps::<L>::new(blank);
-        Plain::new(circuit).polys(points, node, j, out, &mut steps);
+        Plain::new(circuit).polys(points, node, j, false, out, &mut steps);
     }
 }
 
@@ -160,10 +153,10 @@ fn values_counted<L: Ledger>(
     requires some { 0 < L.parts }
     ensures { points.new.rows ≡ points.old.rows }
 {
-    if node < circuit.nodes() && is_binary(circuit.node(node)) && circuit.free_count(node) <= 1 {
+    if node < circuit.nodes() && circuit.node(node).is_binary() && circuit.free_count(node) <= 1 {
         draw_all(circuit, points, node, r);
         let mut steps = Steps::<L>::new(blank);
-        return Some(Plain::new(circuit).values(points, node, &mut steps));
+        return Some(Plain::new(circuit).values(points, node, false, &mut steps));
     }
     None
 }

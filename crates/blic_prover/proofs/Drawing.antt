@@ -1,5 +1,5 @@
 -- What stands after a draw.
-use Rattle.std.proofs.Common.{arith, ℕ, suc, ◌≡◌, ◌+◌, ◌-◌, ◌≤◌, refl, sym, ◌∙◌, ap, subst, inl, inr, List, [], ◌∷◌, ◌++◌, length, true, cond, eqb, ◌&&◌}
+use Rattle.std.proofs.Common.{arith, ℕ, suc, ◌≡◌, ◌≤◌, refl, sym, ◌∙◌, ap, subst, inl, inr, List, [], ◌∷◌, ◌++◌, length, true, cond, eqb, ◌&&◌}
 use Rattle.std.proofs.lemmas.Bool.{cases_eq, eq-eqb, and_from, cond-true}
 use Rattle.std.proofs.lemmas.List.{length_push}
 use Rattle.blic_model.specs.Circuit.{OrderedCircuit, free}

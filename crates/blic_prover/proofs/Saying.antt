@@ -1,5 +1,5 @@
 -- The honest reply of a node, as the points that are kept give it, and what stands after it.
-use Rattle.std.proofs.Common.{arith, ℕ, suc, ◌≡◌, ◌+◌, ◌-◌, ◌<◌, ◌≤◌, refl, sym, ◌∙◌, ap, subst, inl, inr, List, [], ◌∷◌, ◌++◌, length, get_or, Bool, true, false, cond, eqb}
+use Rattle.std.proofs.Common.{arith, ℕ, suc, ◌≡◌, ◌+◌, ◌<◌, ◌≤◌, refl, sym, ◌∙◌, ap, subst, inl, inr, List, [], ◌∷◌, ◌++◌, length, get_or, Bool, true, false, cond, eqb}
 use Rattle.std.specs.Prelude.{map}
 use mathlib.Core.Path.{ap₂, fun_ext}
 use Rattle.std.proofs.lemmas.Bool.{cases_eq, eq-eqb}

@@ -1,5 +1,5 @@
 -- Honest replies, one more at a time; they need no draws but those made before them.
-use Rattle.std.proofs.Common.{arith, ℕ, suc, ◌≡◌, ◌+◌, ◌-◌, ◌<◌, ◌≤◌, refl, sym, ◌∙◌, ap, List, [], ◌∷◌, ◌++◌, length, get_or, append_assoc, Bool}
+use Rattle.std.proofs.Common.{arith, ℕ, suc, ◌≡◌, ◌+◌, ◌<◌, ◌≤◌, refl, sym, ◌∙◌, ap, List, [], ◌∷◌, ◌++◌, length, get_or, append_assoc, Bool}
 use Rattle.std.specs.Prelude.{map}
 use mathlib.Core.Path.{ap₂, fun_ext}
 use Rattle.std.proofs.lemmas.List.{get_or_append_left, get_or_push}

@@ -7,7 +7,7 @@ use Rattle.blic_claims.specs.Claims.{Transcript, claim_at}
 use Rattle.blic_claims.specs.Turns.{turns, transcript, wants_draw_after, draws_above, replies_above, draw_number, polys_number}
 use Rattle.blic_claims.specs.Held.{AreHeld, HasPoints}
 use Rattle.blic_claims.specs.Honest.{honest_answer, honest_replies}
-use Rattle.blic_claims.specs.Points.{PointTable, coordinate}
+use Rattle.blic_claims.specs.Points.{Draws, PointTable, coordinate}
 use Rattle.blic_messages.specs.declared.ask.Hello.{Hello as HelloOf}
 use Rattle.blic_messages.specs.declared.ask.Ask.{Ask}
 use Rattle.blic_prover.specs.Honest.{Progress, Waiting, Running, Over as Ended, progress}
@@ -103,3 +103,23 @@ products_at c most (Going k) = claims c.nodes k * most k
 products_at c most (Drawing k i) = claims c.nodes k * most k
 products_at c most Finished = 0
 products_at c most Over = 0
+
+-- where a draw stands next, answers of which `goes_on` tells may go on by the points with that draw
+abbrev pub GoesOnAt : (PointTable → ℕ → ℕ → Type 0) → PointTable → Stage → Type 0
+GoesOnAt goes_on points Fresh = Unit {0}
+GoesOnAt goes_on points (Going k) = Unit {0}
+GoesOnAt goes_on points (Drawing k i) = (r : ℕ) (next : PointTable) → next.rows ≡ points.rows → Draws points k i r next → goes_on next k i
+GoesOnAt goes_on points Finished = Unit {0}
+GoesOnAt goes_on points Over = Unit {0}
+
+-- all steps of the session were given these answers
+abbrev pub GoesOn : (PointTable → ℕ → ℕ → Type 0) → Proving → Type 0
+GoesOn goes_on p = GoesOnAt goes_on p.points p.stage
+
+-- no draw stands next
+abbrev pub WantsNoDraw : Stage → Type 0
+WantsNoDraw Fresh = Unit {0}
+WantsNoDraw (Going k) = Unit {0}
+WantsNoDraw (Drawing k i) = ⊥
+WantsNoDraw Finished = Unit {0}
+WantsNoDraw Over = Unit {0}

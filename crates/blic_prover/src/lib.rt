@@ -1,7 +1,6 @@
 //! The honest prover of a circuit: what it answers to each ask of a session.
 #![tactic(auto)]
 
-mod binary;
 mod prover;
 mod room;
 mod stage;

@@ -1,5 +1,5 @@
 // The honest prover.
-ghost use Rattle.std.specs.Prelude.{◌≡◌, ◌+◌, ◌*◌, ◌<◌, ◌≤◌, ◌++◌, ◌∷◌, [], ℕ, List, suc, true, false, length, IfOk, slice_index_or};
+ghost use Rattle.std.specs.Prelude.{◌≡◌, ◌+◌, ◌*◌, ◌<◌, ◌≤◌, ◌++◌, ◌∷◌, [], ℕ, IsTrue, List, suc, true, false, length, IfOk, slice_index_or};
 ghost use Rattle.blic_model.specs.Circuit.{free};
 ghost use Rattle.blic_model.specs.Counts.{claims as claims_of};
 ghost use Rattle.blic_claims.specs.Places.{layout_of};
@@ -11,7 +11,7 @@ ghost use Rattle.blic_messages.specs.declared.ask.Ask.TheVariants.{Hello as AskH
 ghost use Rattle.blic_prover.specs.Fitted.{IsAtWork};
 ghost use Rattle.blic_prover.specs.Honest.{Progress, Running, Replied, honest, move_at, progress_with, said_reply, same_hello, changes};
 ghost use Rattle.blic_prover.specs.Moves.{move_of, said_by};
-ghost use Rattle.blic_prover.specs.Standing.{IsReady, IsWalking, StandsAt, StandsFor, products_at};
+ghost use Rattle.blic_prover.specs.Standing.{GoesOn, IsReady, IsWalking, StandsAt, StandsFor, WantsNoDraw, products_at};
 
 use crate::room::fill;
 use crate::stage::Stage;
@@ -62,6 +62,7 @@ impl<'c> Prover<'c> {
         requires { layout.now ≡ layout_of circuit.now }
         ensures circuit { IfOk result (λ p. p.circuit ≡ circuit.now) }
         ensures served { IfOk result (λ p. p.served ≡ served) }
+        ensures fresh { IfOk result (λ p. p.stage ≡ Stage.Fresh) }
         ensures silent { IfOk result (λ p. StandsFor p []) }
     {
         let points = Points::new(alloc, circuit, layout)?;
@@ -94,9 +95,11 @@ impl<'c> Prover<'c> {
         steps: &mut Steps<L>,
     ) -> Step
         requires answers { A.circuit answers.old ≡ self.old.circuit }
+        requires goes_on { GoesOn (A.goes_on answers.old) self.old }
         ensures circuit { self.new.circuit ≡ self.old.circuit }
         ensures served { self.new.served ≡ self.old.served }
         ensures answers { A.circuit answers.new ≡ A.circuit answers.old }
+        ensures goes_on { GoesOn (A.goes_on answers.new) self.new }
         ensures honest { (asks : List AskOf) → StandsFor self.old asks → move_of self.new.kept result ≡ honest self.old.circuit self.old.served asks ask.now }
         ensures stands { (asks : List AskOf) → StandsFor self.old asks → StandsFor self.new (asks ++ ask.now ∷ []) }
         ensures unchanged { changes (move_of self.new.kept result) ≡ false → self.new ≡ self.old }
@@ -125,10 +128,9 @@ impl<'c> Prover<'c> {
         }
     }
 
-    /// Makes the prover as new.
+    /// Begins a new session. All else stays as it was, the polynomials that were given last too.
     pub fn reset(&mut self)
-        ensures circuit { self.new.circuit ≡ self.old.circuit }
-        ensures served { self.new.served ≡ self.old.served }
+        ensures exact { self.new ≡ record self.old { stage = Stage.Fresh } }
         ensures silent { StandsFor self.new [] }
     {
         self.stage = Stage::Fresh;
@@ -136,9 +138,11 @@ impl<'c> Prover<'c> {
 
     fn hello<A: Answers>(&mut self, answers: &mut A, asked: &Hello) -> Step
         requires answers { A.circuit answers.old ≡ self.old.circuit }
+        requires goes_on { GoesOn (A.goes_on answers.old) self.old }
         ensures circuit { self.new.circuit ≡ self.old.circuit }
         ensures served { self.new.served ≡ self.old.served }
         ensures answers { A.circuit answers.new ≡ A.circuit answers.old }
+        ensures goes_on { GoesOn (A.goes_on answers.new) self.new }
         ensures honest { (p : Progress) → StandsAt self.old self.old.stage p → move_of self.new.kept result ≡ move_at self.old.circuit self.old.served p (AskHello asked.now) }
         ensures stands { (p : Progress) → StandsAt self.old self.old.stage p → StandsAt self.new self.new.stage (progress_with p (AskHello asked.now) (move_of self.new.kept result)) }
         ensures unchanged { changes (move_of self.new.kept result) ≡ false → self.new ≡ self.old }
@@ -161,9 +165,11 @@ impl<'c> Prover<'c> {
 
     fn go<A: Answers, L: Ledger>(&mut self, answers: &mut A, steps: &mut Steps<L>) -> Step
         requires answers { A.circuit answers.old ≡ self.old.circuit }
+        requires goes_on { GoesOn (A.goes_on answers.old) self.old }
         ensures circuit { self.new.circuit ≡ self.old.circuit }
         ensures served { self.new.served ≡ self.old.served }
         ensures answers { A.circuit answers.new ≡ A.circuit answers.old }
+        ensures goes_on { GoesOn (A.goes_on answers.new) self.new }
         ensures honest { (p : Progress) → StandsAt self.old self.old.stage p → move_of self.new.kept result ≡ move_at self.old.circuit self.old.served p AskGo }
         ensures stands { (p : Progress) → StandsAt self.old self.old.stage p → StandsAt self.new self.new.stage (progress_with p AskGo (move_of self.new.kept result)) }
         ensures unchanged { changes (move_of self.new.kept result) ≡ false → self.new ≡ self.old }
@@ -173,7 +179,7 @@ impl<'c> Prover<'c> {
         match self.stage {
             Stage::Going { node } => {
                 let left = self.layout.row(node).width;
-                self.reply(answers, node, left, steps)
+                self.reply(answers, node, left, false, steps)
             }
             Stage::Fresh | Stage::Drawing { .. } => Step::OutOfTurn,
             Stage::Finished => Step::NothingLeft,
@@ -183,9 +189,11 @@ impl<'c> Prover<'c> {
 
     fn drawn<A: Answers, L: Ledger>(&mut self, answers: &mut A, r: Fe, steps: &mut Steps<L>) -> Step
         requires answers { A.circuit answers.old ≡ self.old.circuit }
+        requires goes_on { GoesOn (A.goes_on answers.old) self.old }
         ensures circuit { self.new.circuit ≡ self.old.circuit }
         ensures served { self.new.served ≡ self.old.served }
         ensures answers { A.circuit answers.new ≡ A.circuit answers.old }
+        ensures goes_on { GoesOn (A.goes_on answers.new) self.new }
         ensures honest { (p : Progress) → StandsAt self.old self.old.stage p → move_of self.new.kept result ≡ move_at self.old.circuit self.old.served p (AskDraw r) }
         ensures stands { (p : Progress) → StandsAt self.old self.old.stage p → StandsAt self.new self.new.stage (progress_with p (AskDraw r) (move_of self.new.kept result)) }
         ensures unchanged { changes (move_of self.new.kept result) ≡ false → self.new ≡ self.old }
@@ -195,7 +203,7 @@ impl<'c> Prover<'c> {
         match self.stage {
             Stage::Drawing { node, level } => {
                 self.points.draw(node, level, r);
-                self.reply(answers, node, level, steps)
+                self.reply(answers, node, level, true, steps)
             }
             Stage::Fresh | Stage::Going { .. } => Step::OutOfTurn,
             Stage::Finished => Step::NothingLeft,
@@ -225,13 +233,16 @@ impl<'c> Prover<'c> {
         answers: &mut A,
         node: u32,
         left: u32,
+        on: bool,
         steps: &mut Steps<L>,
     ) -> Step
         requires answers { A.circuit answers.old ≡ self.old.circuit }
+        requires on { IsTrue on → A.goes_on answers.old self.old.points node left }
         requires at_work { IsAtWork self.old.circuit self.old.points node left }
         ensures circuit { self.new.circuit ≡ self.old.circuit }
         ensures served { self.new.served ≡ self.old.served }
         ensures answers { A.circuit answers.new ≡ A.circuit answers.old }
+        ensures goes_on { GoesOn (A.goes_on answers.new) self.new }
         ensures replied { changes (move_of self.new.kept result) ≡ true }
         ensures honest { (draws : List ℕ) (t : ℕ) → IsReady self.old.circuit draws t node left self.old.points → move_of self.new.kept result ≡ Replied (said_reply
             (slice_index_or (honest_replies self.old.circuit.nodes (length self.old.circuit.order) draws (suc t)) t no_reply)) }
@@ -241,10 +252,10 @@ impl<'c> Prover<'c> {
     {
         self.circuit.is_within_limits();
         if left == 0 {
-            let (u, w) = self.values(answers, node, steps);
+            let (u, w) = self.values(answers, node, on, steps);
             Step::Reply(Given::Values(u, w))
         } else {
-            self.polys(answers, node, left - 1, steps);
+            self.polys(answers, node, left - 1, on, steps);
             Step::Reply(Given::Polys)
         }
     }
@@ -255,13 +266,16 @@ impl<'c> Prover<'c> {
         answers: &mut A,
         node: u32,
         level: u32,
+        on: bool,
         steps: &mut Steps<L>,
     )
         requires answers { A.circuit answers.old ≡ self.old.circuit }
+        requires on { IsTrue on → A.goes_on answers.old self.old.points node (suc level) }
         requires at_work { IsAtWork self.old.circuit self.old.points node (suc level) }
         ensures circuit { self.new.circuit ≡ self.old.circuit }
         ensures served { self.new.served ≡ self.old.served }
         ensures answers { A.circuit answers.new ≡ A.circuit answers.old }
+        ensures goes_on { GoesOn (A.goes_on answers.new) self.new }
         ensures honest { (draws : List ℕ) (t : ℕ) → IsReady self.old.circuit draws t node (suc level) self.old.points
             → PolysReply self.new.kept ≡ slice_index_or (honest_replies self.old.circuit.nodes (length self.old.circuit.order) draws (suc t)) t no_reply }
         ensures stands { (draws : List ℕ) (t : ℕ) → IsReady self.old.circuit draws t node (suc level) self.old.points
@@ -278,6 +292,7 @@ impl<'c> Prover<'c> {
             &self.points,
             node,
             level,
+            on,
             steps,
         );
         self.count = count;
@@ -289,13 +304,16 @@ impl<'c> Prover<'c> {
         &mut self,
         answers: &mut A,
         node: u32,
+        on: bool,
         steps: &mut Steps<L>,
     ) -> (Fe, Fe)
         requires answers { A.circuit answers.old ≡ self.old.circuit }
+        requires on { IsTrue on → A.goes_on answers.old self.old.points node 0 }
         requires at_work { IsAtWork self.old.circuit self.old.points node 0 }
         ensures circuit { self.new.circuit ≡ self.old.circuit }
         ensures served { self.new.served ≡ self.old.served }
         ensures answers { A.circuit answers.new ≡ A.circuit answers.old }
+        ensures goes_on { GoesOn (A.goes_on answers.new) self.new }
         ensures honest { (draws : List ℕ) (t : ℕ) → IsReady self.old.circuit draws t node 0 self.old.points
             → ValuesReply result.0 result.1 ≡ slice_index_or (honest_replies self.old.circuit.nodes (length self.old.circuit.order) draws (suc t)) t no_reply }
         ensures stands { (draws : List ℕ) (t : ℕ) → IsReady self.old.circuit draws t node 0 self.old.points
@@ -304,7 +322,7 @@ impl<'c> Prover<'c> {
         ensures at_least { steps.old ≤ steps.new }
     {
         self.circuit.is_within_limits();
-        let (u, w) = answers.values(&self.points, node, steps);
+        let (u, w) = answers.values(&self.points, node, on, steps);
         self.stage = Stage::Finished;
         self.points.hand_down(self.circuit, self.layout, node);
         self.go_on(node);
@@ -315,6 +333,7 @@ impl<'c> Prover<'c> {
     fn go_on(&mut self, top: u32)
         requires { top ≤ length self.old.circuit.nodes }
         ensures circuit { self.new.circuit ≡ self.old.circuit }
+        ensures undrawn { WantsNoDraw self.new.stage }
         ensures served { self.new.served ≡ self.old.served }
         ensures stands { (draws : List ℕ) (t : ℕ) → IsWalking self.old.circuit draws t top self.old.points → StandsAt self.new self.new.stage (Running t draws) }
     {

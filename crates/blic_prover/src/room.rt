@@ -1,9 +1,9 @@
 // The room for the polynomials of a reply.
-ghost use Rattle.std.specs.Prelude.{◌≡◌, ◌<◌, ◌≤◌, ◌+◌, ◌*◌, length, map, take};
+ghost use Rattle.std.specs.Prelude.{◌≡◌, ◌<◌, ◌≤◌, ◌+◌, ◌*◌, ℕ, IsTrue, length, map, suc, take};
 ghost use Rattle.blic_model.specs.Circuit.{below, free};
 ghost use Rattle.blic_model.specs.Counts.{claims};
 ghost use Rattle.blic_model.specs.Reduction.{poly};
-ghost use Rattle.blic_claims.specs.Points.{ArePointsOf, stored_point};
+ghost use Rattle.blic_claims.specs.Points.{ArePointsOf, Draws, PointTable, stored_point};
 ghost use Rattle.blic_prover.specs.Fitted.{IsBinaryNode};
 
 use blic_basic::Steps;
@@ -19,8 +19,10 @@ pub(crate) fn fill<A: Answers, L: Ledger>(
     points: &Points,
     node: u32,
     j: u32,
+    on: bool,
     steps: &mut Steps<L>,
 )
+    requires on { IsTrue on → A.goes_on answers.old points.now node (suc j) }
     requires points { ArePointsOf points.now (A.circuit answers.old) }
     requires binary { IsBinaryNode (A.circuit answers.old) node }
     requires level { j < length (free (A.circuit answers.old).nodes (length (A.circuit answers.old).order) node) }
@@ -31,8 +33,9 @@ pub(crate) fn fill<A: Answers, L: Ledger>(
     ensures filled { take count room.new ≡ map
         (λ k. poly (A.circuit answers.old).nodes (length (A.circuit answers.old).order) node j (stored_point (A.circuit answers.old) points.now node k))
         (below (claims (A.circuit answers.old).nodes node)) }
+    ensures goes_on { (r : ℕ) (next : PointTable) → next.rows ≡ points.now.rows → Draws points.now node j r next → A.goes_on answers.new next node j }
     ensures at_most { steps.new ≤ steps.old + count * A.most answers.old node }
     ensures at_least { steps.old ≤ steps.new }
 {
-    answers.polys(points, node, j, &mut room[..count], steps);
+    answers.polys(points, node, j, on, &mut room[..count], steps);
 }

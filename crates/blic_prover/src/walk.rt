@@ -7,7 +7,6 @@ ghost use Rattle.blic_claims.specs.Points.{ArePointsOf};
 ghost use Rattle.blic_prover.specs.Fitted.{IsBinaryNode, EndsAs};
 ghost use Rattle.blic_prover.specs.Standing.{IsWalking};
 
-use crate::binary::is_binary;
 use blic_claims::{Layout, Points};
 use blic_model::Circuit;
 
@@ -23,7 +22,7 @@ pub(crate) fn walk(points: &mut Points, circuit: &Circuit, layout: &Layout, top:
     let mut node = top;
     'nodes: while 0 < node {
         node -= 1;
-        if is_binary(circuit.node(node)) {
+        if circuit.node(node).is_binary() {
             return Some(node);
         }
         pass(points, circuit, layout, node);

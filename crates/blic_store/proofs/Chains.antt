@@ -1,20 +1,10 @@
--- Chains of buckets: empty ones, one more item, and longer lists.
+-- Chains of buckets: those of the same items, and one item more.
 use Rattle.std.proofs.Common.{arith, ℕ, ◌+◌, ◌-◌, ◌<◌, ◌≡◌, ◌≢◌, sym, ◌∙◌, ap, subst, inl, inr, List, length, get_or}
 use Rattle.std.specs.Prelude.{set}
 use Rattle.std.proofs.lemmas.Bool.{cases_eq}
 use Rattle.std.proofs.lemmas.List.{get_or-set_other}
 use Rattle.std.proofs.lemmas.Grind.{get_or-set_at}
 use Rattle.blic_store.specs.UniqueTable.{IsChained}
-
-pub chained_none : (bucket_of older : ℕ → ℕ) (heads : List ℕ) → ((b : ℕ) → get_or heads b 0 ≡ 0) → IsChained bucket_of older 0 heads
-chained_none bucket_of older heads e = record {
-  below_head = λ k h. absurd (omega arith);
-  below_link = λ j k l h s. absurd (omega arith);
-  head_is_item = λ b. omega (arith, e b);
-  head_in_bucket = λ b h. absurd (omega (arith, e b));
-  link_is_older = λ k h. absurd (omega arith);
-  link_in_bucket = λ k h p. absurd (omega arith);
-}
 
 -- Chains of items whose buckets and links are the same.
 pub chained_same : (f g older links : ℕ → ℕ) (n : ℕ) (heads : List ℕ) → ((k : ℕ) → k < n → g k ≡ f k) → ((k : ℕ) → k < n → links k ≡ older k) → IsChained f older n heads → IsChained g links n heads

@@ -24,10 +24,6 @@ length-fold (y ∷ ys) known =
     let w = length-fold ys (add_function known y) in
     omega arith
 
-pub length-functions : (nodes : List Decision) → length (functions nodes) ≡ length nodes + 2
-unfolding functions
-length-functions nodes = let w = length-fold nodes ((λ p. false) ∷ (λ p. true) ∷ []) in omega arith
-
 -- A longer list keeps the functions.
 pub function-append : (xs ys : List Decision) (r : ℕ) → r < length xs + 2 → function (xs ++ ys) r ≡ function xs r
 unfolding function functions

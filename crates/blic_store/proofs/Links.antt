@@ -1,7 +1,7 @@
--- The links of a table: which numbers have a hash, and links that are set and added.
-use Rattle.std.proofs.Common.{arith, ℕ, ◌+◌, ◌<◌, ◌≤◌, ◌≡◌, ◌≢◌, refl, sym, ◌∙◌, ap, subst, List, [], ◌∷◌, ◌++◌, length, get_or, map}
+-- The links of a table: which numbers have a hash, and links that are set.
+use Rattle.std.proofs.Common.{arith, ℕ, ◌+◌, ◌<◌, ◌≤◌, ◌≡◌, ◌≢◌, refl, sym, ◌∙◌, ap, subst, List, length, get_or, map}
 use Rattle.std.specs.Prelude.{set, Option, Some, None, IfSome, IfNone}
-use Rattle.std.proofs.lemmas.List.{get_or-set_other, get_or_append_left, length-map, length-set}
+use Rattle.std.proofs.lemmas.List.{get_or-set_other, length-map, length-set}
 use Rattle.std.proofs.lemmas.Grind.{get_or-set_at}
 use Rattle.std.proofs.lemmas.Option.{IfSome_then}
 use Rattle.std.proofs.Math.ListN.{get_or-map}
@@ -39,14 +39,6 @@ chains-chain heads links n b v t e lb ln q =
 
     same : (k : ℕ) → (link_at news k).hash ≡ (link_at links k).hash
     same k = sym (hash_at-map news k) ∙ (ap (λ z. hash_at z k) (hashes-chain heads links n b) ∙ hash_at-map links k)
-
-pub chains-push : (heads : List ℕ) (links : List Link) (x : Link) → HasChains heads links (length links) → HasChains heads (links ++ x ∷ []) (length links)
-chains-push heads links x t =
-    chained_same (bucket_at (length heads) links) (bucket_at (length heads) (links ++ x ∷ [])) (older_at links) (older_at (links ++ x ∷ [])) (length links) heads
-    (λ k h. ap (λ (l : Link). bucket (length heads) l.hash) (same k h)) (λ k h. ap (λ (l : Link). l.older) (same k h)) t
-  where
-    same : (k : ℕ) → k < length links → link_at (links ++ x ∷ []) k ≡ link_at links k
-    same k h = get_or_append_left links (x ∷ []) none k h
 
 -- What a walk from a link finds, where all numbers below n with the hash stand before it.
 some_from : (hashes : List ℕ) (n from hash : ℕ) (o : Option ℕ) → from ≤ n → ((j : ℕ) → j < n → hash_at hashes j ≡ hash → j < from) → IfSome o (IsLast hashes from hash) → IfSome o (IsLast hashes n hash)

@@ -1,5 +1,5 @@
--- Stores: an empty one, and one with a node more.
-use Rattle.std.proofs.Common.{arith, ℕ, zero, suc, ◌+◌, ◌-◌, ◌^◌, ◌<◌, ◌≤◌, ◌≡◌, ◌≢◌, refl, sym, ◌∙◌, ap, subst, inl, inr, List, [], ◌∷◌, ◌++◌, length, map, Bool, false, true, cond}
+-- Stores with a node more.
+use Rattle.std.proofs.Common.{arith, ℕ, zero, suc, ◌+◌, ◌-◌, ◌^◌, ◌<◌, ◌≤◌, ◌≡◌, ◌≢◌, refl, sym, ◌∙◌, ap, subst, inl, inr, List, [], ◌∷◌, ◌++◌, length, map, false, true}
 use Rattle.std.specs.Prelude.{◌==◌, Result, Ok, Err, OnOk, IfOk}
 use Rattle.std.specs.Result.{is_err}
 use Rattle.std.proofs.lemmas.Bool.{cases_lt}
@@ -15,9 +15,6 @@ use Rattle.blic_store.specs.Store.{IsStore, hash_of}
 use Rattle.blic_store.proofs.Levels.{level_of-suc, level_of-const}
 use Rattle.blic_store.proofs.Canonical.{function-node}
 use Rattle.blic_store.proofs.Functions.{function-last}
-
-pub canonical_none : IsCanonical []
-canonical_none = record { placed = λ k h. absurd (omega arith); unique = λ j k l h. absurd (omega arith) }
 
 pub decision-append : (xs : List Decision) (e : Decision) (k : ℕ) → k < length xs → decision_at (xs ++ e ∷ []) k ≡ decision_at xs k
 decision-append xs e k h = get_or_append_left xs (e ∷ []) (record { level = 0; low = 0; high = 0 }) k h
@@ -76,19 +73,6 @@ adds_one xs e c o new =
 
 pub adds_none : (f : Function) (xs : List Decision) → IsCanonical xs → Adds f xs xs
 adds_none f xs c = record { canonical = c; extends = ([], sym (append-nil xs)); parts = λ r l h. absurd (omega arith) }
-
--- Choosing between one function and itself.
-same_choice : (b : Bool) {x y : Bool} → x ≡ y → cond b x y ≡ y
-same_choice true e = e
-same_choice false e = refl
-
-pub answers_low : (xs : Diagrams) (level low high : ℕ) → IsCanonical xs.nodes → low ≡ high → low < length xs.nodes + 2 → Answers (choice level (function xs.nodes low) (function xs.nodes high)) xs xs low
-answers_low xs level low high c e h = record {
-  adds = adds_none (choice level (function xs.nodes low) (function xs.nodes high)) xs.nodes c;
-  same_limit = refl;
-  held = h;
-  value = λ p. sym (same_choice (p level) (ap (λ z. function xs.nodes z p) (sym e)));
-}
 
 -- A node that is held.
 pub answers_found : (xs : Diagrams) (e : Decision) (k r : ℕ) → IsCanonical xs.nodes → k < length xs.nodes → decision_at xs.nodes k ≡ e → r ≡ k + 2

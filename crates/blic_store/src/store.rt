@@ -13,16 +13,19 @@ use blic_basic::NoMem;
 use std::alloc::Global;
 use std::marker::Model;
 use std::vec::Vec;
+use thiserror::Error;
 
 /// With more decisions a ref's number would pass 32 bits.
 const MOST: usize = 4294967294;
 
 /// Why a function was not made.
-#[derive(Clone, Copy, Debug, PartialEq, Eq)]
+#[derive(Clone, Copy, Debug, PartialEq, Eq, Error)]
 pub enum StoreError {
     /// The store holds as many decisions as it may, and would need one more.
+    #[error("the store is full")]
     Full,
     /// Memory ran out.
+    #[error("memory ran out")]
     NoMem,
 }
 

@@ -1,8 +1,8 @@
 use Rattle.std.proofs.Common.{◌≡◌, ◌≤◌, ◌+◌, ◌*◌, take}
 use Rattle.std.specs.Prelude.{map}
 use Rattle.blic_model.specs.Circuit.{below}
+use Rattle.blic_claims.specs.Points.{stored_poly}
 use Rattle.blic_engine.specs.Costs.{most_products}
-use Rattle.blic_engine.specs.Polys.{stored_poly}
 use Rattle.blic_engine.specs.Rooms.{HasRoom}
 use Rattle.blic_engine.proofs.polys.fill.Given as goal
 

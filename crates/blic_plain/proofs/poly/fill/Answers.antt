@@ -1,6 +1,6 @@
 use Rattle.std.proofs.Common.{arith, sym, ap, length}
 use Rattle.std.specs.Prelude.{map}
-use Rattle.blic_plain.specs.Chains.{stored_poly}
+use Rattle.blic_claims.specs.Points.{stored_poly}
 use Rattle.blic_plain.specs.Products.{products}
 use Rattle.blic_plain.proofs.Polynomials.{below_none, filled_more, count_more}
 use Rattle.blic_plain.proofs.poly.fill.Goals as goal

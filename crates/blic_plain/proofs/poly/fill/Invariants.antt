@@ -1,7 +1,7 @@
 use Rattle.std.proofs.Common.{◌≡◌, ◌≤◌, ◌+◌, ◌*◌, length, take}
 use Rattle.std.specs.Prelude.{map}
 use Rattle.blic_model.specs.Circuit.{below}
-use Rattle.blic_plain.specs.Chains.{stored_poly}
+use Rattle.blic_claims.specs.Points.{stored_poly}
 use Rattle.blic_plain.specs.Products.{products}
 use Rattle.blic_plain.proofs.poly.fill.Given as goal
 

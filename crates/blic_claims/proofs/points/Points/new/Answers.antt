@@ -24,5 +24,5 @@ invariant_of-result c =
     subst (λ rs. IsTrue (spaced 0 rs (length c.in_ok-elements.elements.items))) (sym rows)
     (subst (λ n. IsTrue (spaced 0 (layout_of c.args.circuit.now).rows n)) (sym (end ∙ start)) (layout_spaced c.args.circuit.now c.is_within_limits.ensures.shaped))
 
-pub returns : goal.returns
-returns c = c.in_ok-rows.ensures.items ∙ (c.rows.ensures ∙ ap (λ l. l.rows) c.requires)
+pub returns-clause-points : goal.returns-clause-points
+returns-clause-points c = c.in_ok-rows.ensures.items ∙ (c.rows.ensures ∙ ap (λ l. l.rows) c.requires)

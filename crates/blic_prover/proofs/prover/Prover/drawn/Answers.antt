@@ -4,7 +4,8 @@ use Rattle.blic_claims.specs.Places.{row_at}
 use Rattle.blic_claims.proofs.Rows.{is_row, length-rows}
 use Rattle.blic_prover.specs.Fitted.{StageFits, IsAtWork}
 use Rattle.blic_prover.specs.Honest.{move_at}
-use Rattle.blic_prover.specs.Standing.{Proving, StandsAt}
+use Rattle.blic_prover.specs.Standing.{GoesOnAt, Proving, StandsAt}
+use Rattle.blic_prover.specs.declared.stage.Stage.TheVariants.{Drawing}
 use Rattle.blic_messages.specs.declared.ask.Ask.TheVariants.{Draw}
 use Rattle.blic_prover.proofs.Drawing.{work_drawn, work_above}
 use Rattle.blic_prover.proofs.Sessions.{drawn_said, drawn_stands, going_refuses, fresh_refuses_draw}
@@ -75,3 +76,11 @@ returns-in-Fresh-clause-honest g c = λ p st.
       | inl e ↦ fresh_refuses_draw s p c.args.r (same ∙ e) st
       | inr e ↦ going_refuses s p e.0 c.args.r (same ∙ e.1) st
     ]
+
+pub reply-requires-clause-on : goal.reply-requires-clause-on
+reply-requires-clause-on g c = λ _.
+    let inside = c.self.inside in
+    let answered = g.A.Answers.goes_on c.args.answers.now in
+    let here : GoesOnAt answered inside.points inside.stage = subst (λ z. GoesOnAt answered z.points z.stage) (sym c.self.view_is) c.requires.goes_on in
+    let drawing : GoesOnAt answered inside.points (Drawing c.in-Drawing.node c.in-Drawing.level) = subst (GoesOnAt answered inside.points) c.in-Drawing.is here in
+    drawing c.args.r c.draw.new.self c.draw.ensures.rows c.draw.ensures.drawn

@@ -7,8 +7,8 @@ use Rattle.blic_prover.proofs.prover.Prover.new.Goals as goal
 pub invariant_of-result : goal.invariant_of-result
 invariant_of-result c = record {
   laid_out = c.requires;
-  same_rows = c.in_ok-points.ensures;
-  most = λ k l b. omega (arith, c.most_claims.ensures k l b, c.in-Ok.ensures.len, c.in-Ok.polys.ok);
+  same_rows = c.in_ok-points.ensures.points;
+  most = λ k l b. omega (arith, c.most_claims.ensures.most k l b, c.in-Ok.ensures.len, c.in-Ok.polys.ok);
   within = omega arith;
   at_work = tt;
 }

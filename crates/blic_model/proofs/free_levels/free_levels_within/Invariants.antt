@@ -1,7 +1,7 @@
 use Rattle.std.proofs.Common.{◌≡◌, ℕ, length}
 use Rattle.blic_model.specs.CircuitTables.{HasLevels}
 use Rattle.blic_model.specs.LevelLists.{free_lists}
-use Rattle.blic_model.proofs.free_levels.free_levels.Given as goal
+use Rattle.blic_model.proofs.free_levels.free_levels_within.Given as goal
 
 abbrev pub invariant-loop-node : goal.invariant-loop-node
 invariant-loop-node l = record {

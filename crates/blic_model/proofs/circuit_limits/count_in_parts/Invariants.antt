@@ -1,6 +1,6 @@
 use Rattle.std.proofs.Common.{◌≡◌, ◌-◌, length}
 use Rattle.blic_model.specs.Counts.{points}
-use Rattle.blic_model.proofs.circuit_limits.count_points.Given as goal
+use Rattle.blic_model.proofs.circuit_limits.count_in_parts.Given as goal
 
 abbrev pub invariant-loop-first : goal.invariant-loop-first
 invariant-loop-first l = record {

@@ -1,6 +1,6 @@
 use Rattle.std.proofs.Common.{arith, ◌+◌, ◌∙◌}
 use Rattle.blic_model.proofs.PointCounts.{no_points, points_join, points_small, points_past}
-use Rattle.blic_model.proofs.circuit_limits.count_points.Goals as goal
+use Rattle.blic_model.proofs.circuit_limits.count_in_parts.Goals as goal
 
 pub loop-first-init : goal.loop-first-init
 loop-first-init c = record { long = c.in_ok-sets.ensures; counted = no_points c.args.nodes.now }
