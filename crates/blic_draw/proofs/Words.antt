@@ -1,7 +1,7 @@
 -- The words of a draw.
-use Rattle.std.proofs.Common.{arith, ◌≡◌, ◌≤◌, ◌+◌, ◌^◌, ℕ, ◌*◌, ◌%◌, ap, ◌∙◌, refl, List}
+use Rattle.std.proofs.Common.{arith, ◌≡◌, ◌≤◌, ◌+◌, ◌^◌, ℕ, ◌*◌, ◌%◌, ap, ◌∙◌, List}
 use mathlib.Core.Path.{ap₂}
-use Rattle.rand_chacha.specs.ChaCha.{ChaCha, key_of, next_word, word_at}
+use Rattle.rand_chacha.specs.ChaCha.{ChaCha, key_of, word_at}
 use Rattle.blic_draw.specs.Draws.{draw_at, element_of, word_of}
 
 -- two words in a row

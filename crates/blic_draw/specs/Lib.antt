@@ -1,1 +1,2 @@
+pub mod DrawRun
 pub mod Draws

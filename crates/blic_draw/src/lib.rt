@@ -1,8 +1,10 @@
 //! Draws of field elements from a seed, each by its number.
 #![tactic(auto)]
 
+mod draw_run;
 mod draws;
 
+pub use draw_run::DrawRun;
 pub use draws::Draws;
 
 #[cfg(test)]

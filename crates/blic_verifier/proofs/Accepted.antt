@@ -1,10 +1,8 @@
 -- The law of acceptance over lists of draws and replies.
 use Rattle.std.proofs.Common.{◌≡◌, ◌∙◌, subst, length}
-use Rattle.blic_model.specs.Building.{circuit_of}
-use Rattle.blic_model.specs.Truth.{truth}
 use Rattle.blic_model.proofs.Ordered.{ordered_all}
 use Rattle.blic_model.proofs.Shaped.{ordered_of}
-use Rattle.blic_model.proofs.FormulaShape.{formula_shaped}
+use Rattle.blic_claims.specs.Claims.{zero_point}
 use Rattle.blic_claims.specs.Turns.{turns}
 use Rattle.blic_claims.specs.Honest.{honest_answer, honest_replies}
 use Rattle.blic_claims.proofs.Drawn.{levelled_from_shape}
@@ -14,7 +12,7 @@ use Rattle.blic_verifier.specs.Acceptance.{Passes}
 use Rattle.blic_verifier.specs.HonestLaws.{HonestRepliesPass, HonestRepliesPassWithTruth}
 use Rattle.blic_verifier.proofs.OfElements.{draw_element}
 use Rattle.blic_verifier.proofs.HonestPasses.{honest_fits, honest_passes}
-use Rattle.blic_verifier.proofs.Sound.{root_truth, same_bit}
+use Rattle.blic_verifier.proofs.Sound.{same_bit}
 
 pub pass : HonestRepliesPass
 pass nodes levels h draws d = (
@@ -25,11 +23,10 @@ pass nodes levels h draws d = (
 )
 
 pub pass_with_truth : HonestRepliesPassWithTruth
-pass_with_truth f h draws d =
-    let s = formula_shaped f h in
-    let e : honest_answer (circuit_of f).nodes (length (circuit_of f).order) ≡ truth f =
-    same_bit _ _ (answer_honest (circuit_of f).nodes (length (circuit_of f).order) (ordered_all (circuit_of f).nodes (ordered_of (circuit_of f).nodes (length (circuit_of f).order) s)) ∙ root_truth f h) in (
+pass_with_truth c t shaped root draws d =
+    let e : honest_answer c.nodes (length c.order) ≡ t =
+    same_bit _ _ (answer_honest c.nodes (length c.order) (ordered_all c.nodes (ordered_of c.nodes (length c.order) shaped)) ∙ root zero_point) in (
       e,
-      subst (λ b. Passes (circuit_of f).nodes (length (circuit_of f).order) b draws (honest_replies (circuit_of f).nodes (length (circuit_of f).order) draws (length (turns (circuit_of f).nodes (length (circuit_of f).order))))) e
-          (pass (circuit_of f).nodes (length (circuit_of f).order) s draws d),
+      subst (λ b. Passes c.nodes (length c.order) b draws (honest_replies c.nodes (length c.order) draws (length (turns c.nodes (length c.order))))) e
+          (pass c.nodes (length c.order) shaped draws d),
     )

@@ -1,5 +1,5 @@
 -- What a transcript keeps when a reply is added.
-use Rattle.std.proofs.Common.{arith, ℕ, suc, ◌≡◌, ◌-◌, refl, sym, ◌∙◌, ap, List, [], ◌∷◌, ◌++◌, length, Bool}
+use Rattle.std.proofs.Common.{arith, ℕ, suc, ◌≡◌, refl, sym, ◌∙◌, ap, List, [], ◌∷◌, ◌++◌, length, Bool}
 use Rattle.std.proofs.lemmas.List.{get_or_append_left}
 use Rattle.std.specs.Prelude.{find, None}
 use Rattle.blic_model.specs.declared.node.Node.{Node}

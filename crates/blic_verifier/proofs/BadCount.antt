@@ -12,9 +12,10 @@ use Rattle.blic_claims.specs.Claims.{Transcript, claims_on}
 use Rattle.blic_claims.specs.Turns.{transcript}
 use Rattle.blic_claims.proofs.ClaimCounts.{length-claims_on}
 use Rattle.blic_verifier.specs.Acceptance.{sent}
-use Rattle.blic_verifier.specs.Soundness.{true_poly, IsBad}
+use Rattle.blic_verifier.specs.Soundness.{true_poly, IsBad, IsRootAt}
 use Rattle.blic_verifier.specs.SoundnessLaws.{FewBadAtADraw}
 use Rattle.blic_verifier.proofs.Classes.{AtMostTwo, InSome, Different-from_pairs, few_in_classes}
+use Rattle.blic_verifier.proofs.FixedBefore.{root_of_bad}
 use Rattle.blic_verifier.proofs.OfElements.{sent_elements}
 
 -- the two polynomials are one
@@ -77,19 +78,21 @@ class nodes levels T k i j = is_crossing (sent T k i j) (true_poly nodes levels 
 
 -- a list of different bad elements of a draw has at most two entries for each claim
 few_bad : IsPrime modulus → (nodes : List Node) (levels : ℕ) (T : Transcript) (k i : ℕ) → ((j : ℕ) → HasElements (sent T k i j))
-    → (elements : List ℕ) → AllPairs (λ x y. x ≡ y → ⊥) elements → All (λ r. (r < modulus) × IsBad nodes levels T k i r) elements
+    → (elements : List ℕ) → AllPairs (λ x y. x ≡ y → ⊥) elements → All (λ r. (r < modulus) × IsRootAt nodes levels T k i r) elements
     → length elements ≤ 2 * length (claims_on nodes levels T k)
 few_bad prime nodes levels T k i h elements d a =
     few_in_classes (class nodes levels T k i)
     (λ j. two_crossings prime (sent T k i j) (true_poly nodes levels T k i j) (h j) (HasElements-poly nodes levels k i _))
     (length (claims_on nodes levels T k)) elements (Different-from_pairs elements d)
-    (All-weaker (λ r. (r < modulus) × IsBad nodes levels T k i r) (InSome (class nodes levels T k i) (length (claims_on nodes levels T k)))
+    (All-weaker (λ r. (r < modulus) × IsRootAt nodes levels T k i r) (InSome (class nodes levels T k i) (length (claims_on nodes levels T k)))
     (λ r b. some r b.0 b.1) elements a)
   where
-    some : (r : ℕ) → r < modulus → IsBad nodes levels T k i r → InSome (class nodes levels T k i) (length (claims_on nodes levels T k)) r
+    some : (r : ℕ) → r < modulus → IsRootAt nodes levels T k i r → InSome (class nodes levels T k i) (length (claims_on nodes levels T k)) r
     some r l (j, lj, ne, e) = (j, lj, crossing (sent T k i j) (true_poly nodes levels T k i j) r ne l e)
 
 pub few_bad_at_draw : FewBadAtADraw
 few_bad_at_draw prime nodes levels shape answer draws replies h k i lk li elements d a =
     subst (λ n. length elements ≤ 2 * n) (length-claims_on nodes levels (transcript nodes levels answer draws replies) k)
-    (few_bad prime nodes levels (transcript nodes levels answer draws replies) k i (sent_elements nodes levels answer draws replies h k i) elements d a)
+    (few_bad prime nodes levels (transcript nodes levels answer draws replies) k i (sent_elements nodes levels answer draws replies h k i) elements d
+    (All-weaker (λ r. (r < modulus) × IsBad nodes levels answer draws replies k i r) (λ r. (r < modulus) × IsRootAt nodes levels (transcript nodes levels answer draws replies) k i r)
+    (λ r b. (b.0, root_of_bad nodes levels answer draws replies k i r lk li b.1)) elements a))

@@ -18,7 +18,7 @@ use Rattle.blic_claims.specs.Claims.{Transcript, Claim, zero_point, no_claim, no
 use Rattle.blic_claims.proofs.Lists.{Contains-below, all_in_map}
 use Rattle.blic_claims.proofs.Drawn.{AllLevelled}
 use Rattle.blic_verifier.specs.Acceptance.{leaf_check, binary_checks, node_checks, AllHold}
-use Rattle.blic_verifier.specs.Soundness.{SomeDrawIsBad}
+use Rattle.blic_verifier.proofs.Roots.{SomeRootIsDrawn}
 use Rattle.blic_verifier.proofs.OfElements.{IsOfElements}
 use Rattle.blic_verifier.proofs.HeldChecks.{Holds, node_passes}
 use Rattle.blic_verifier.proofs.ClaimElements.{ClaimHasElements, claims_elements, negated, fixed}
@@ -66,7 +66,7 @@ sound_binary nodes levels o v T t k lk b both h true_both c (j, l, e) =
 -- the values sent for the operands of node k are true, or some draw was bad
 operands_true : (nodes : List Node) (levels : ℕ) (T : Transcript) (k a b : ℕ) → k < length nodes → (a < k) × (b < k) → AreOperands nodes k a b
     → ((j : ℕ) → j < k → AllTrue nodes levels T j)
-    → SomeDrawIsBad nodes levels T
+    → SomeRootIsDrawn nodes levels T
     ⊎ (((T.values k).0 ≡ value nodes levels a (node_point nodes levels T k)) × ((T.values k).1 ≡ value nodes levels b (node_point nodes levels T k)))
 operands_true nodes levels T k a b l under e ih =
     elim (ih a under.0 (omega (arith, under.0)) _ (first_claim nodes levels T k a b l under.0 e)) [
@@ -115,7 +115,7 @@ all_true nodes levels o v T t h =
 -- where the answer isn't the root's value, some draw is bad
 pub soundness : (nodes : List Node) (levels : ℕ) → 0 < length nodes → AllOrdered nodes → AllLevelled nodes levels
     → (T : Transcript) → IsOfElements T → AllHold nodes levels T → (bit T.answer ≡ value nodes levels (root nodes) zero_point → ⊥)
-    → SomeDrawIsBad nodes levels T
+    → SomeRootIsDrawn nodes levels T
 soundness nodes levels l o v T t h ne =
     elim (all_true nodes levels o v T t h (root nodes) (omega arith) (record { point = zero_point; value = bit T.answer }) (root_claim nodes levels T)) [
       | inl bad ↦ bad

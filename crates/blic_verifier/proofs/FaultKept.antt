@@ -139,3 +139,8 @@ pub fault_is_fixed : FaultIsFixed
 unfolding count
 fault_is_fixed nodes levels answer draws others replies more h =
     ap (find fails) (checks_kept nodes levels (transcript nodes levels answer draws replies) (transcript nodes levels answer (draws ++ others) (replies ++ more)) (length replies + 1) (agree_more nodes levels answer draws others replies more h))
+
+-- a node's draws are its turns for polynomials
+pub draws_of_node : (nodes : List Node) (levels j : ℕ) → length (filter is_polys (node_turns nodes levels j)) ≡ cond (is_binary (node_at nodes j)) (length (free nodes levels j)) 0
+unfolding count
+draws_of_node nodes levels j = node_count nodes levels j

@@ -1,5 +1,5 @@
 -- Claims that a node hands down.
-use Rattle.std.proofs.Common.{arith, ℕ, suc, ◌≡◌, ◌-◌, ◌<◌, refl, ◌∙◌, ap, List, length}
+use Rattle.std.proofs.Common.{arith, ℕ, suc, ◌≡◌, ◌<◌, refl, ◌∙◌, ap, List, length}
 use Rattle.std.proofs.lemmas.Bool.{eq-eqb, ne_eqb}
 use Rattle.std.specs.Prelude.{map, filter, find, Some, not}
 use Rattle.blic_model.specs.Circuit.{below}

@@ -1,5 +1,5 @@
 -- A conversation in which each reply is the honest one.
-use Rattle.std.proofs.Common.{arith, ℕ, zero, suc, ◌≡◌, ◌+◌, ◌<◌, ◌≤◌, refl, sym, ◌∙◌, ap, subst, inl, inr, List, [], ◌∷◌, ◌++◌, length, get_or, Bool, true, false, cond, eqb}
+use Rattle.std.proofs.Common.{arith, ℕ, zero, suc, ◌≡◌, ◌+◌, ◌<◌, ◌≤◌, refl, sym, ◌∙◌, ap, subst, inl, inr, List, [], ◌∷◌, ◌++◌, length, get_or, Bool, true, false, cond, eqb, zero-add}
 use Rattle.std.specs.Prelude.{All, Option, Some, None, filter, find, take, not}
 use Rattle.std.proofs.lemmas.Bool.{cases_eq, cases_Bool, eq-eqb, ne_eqb, cond-true, cond-false}
 use Rattle.std.proofs.lemmas.List.{length_push}
@@ -22,7 +22,8 @@ use Rattle.blic_claims.proofs.SomeClaim.{some_claim_law}
 use Rattle.blic_claims.proofs.Turns.{binary_inside, polys_below, values_below}
 use Rattle.blic_verifier.specs.Acceptance.{Check, checks, fails}
 use Rattle.blic_verifier.specs.Verdict.{Talk, Silent, Talked, fault_upto, judged, judged_at, verdict}
-use Rattle.blic_verifier.specs.Conversation.{Position, Awaits, Ended, Certified, go_on, read_on, position_after, beginning, honest_reply, said_of, AreHonest, GoesOnOrAccepts}
+use Rattle.blic_verifier.specs.Conversation.{Instance, Position, Awaits, Ended, go_on, read_on, position_after, beginning, honest_reply, said_of, AreHonest, GoesOnOrAccepts}
+use Rattle.blic_verifier.specs.declared.ending.Ending.TheVariants.{Certified}
 use Rattle.blic_verifier.specs.HonestLaws.{HonestConversationAccepts}
 use Rattle.blic_verifier.specs.declared.next.Next.{Next}
 use Rattle.blic_verifier.specs.declared.next.Next.TheVariants.{Draw, Go, Done}
@@ -95,10 +96,11 @@ pub record IsHonestTalk (nodes : List Node) (levels : ℕ) (answer : Bool) (draw
   pub left : length replies < length (turns nodes levels)
   pub drawn : draws_before nodes levels (length replies) ≤ length draws
 
-abbrev IsHonestPosition : OrderedCircuit → Position → Type 0
-IsHonestPosition c (Awaits ask Silent n) = Unit {0}
-IsHonestPosition c (Awaits ask (Talked a draws replies) n) = IsHonestTalk c.nodes (length c.order) a draws replies
-IsHonestPosition c (Ended e) = e ≡ Certified (honest_answer c.nodes (length c.order))
+-- so many replies have come
+abbrev IsHonestPosition : OrderedCircuit → ℕ → Position → Type 0
+IsHonestPosition c m (Awaits ask Silent n) = m ≡ 0
+IsHonestPosition c m (Awaits ask (Talked a draws replies) n) = (m ≡ suc (length replies)) × IsHonestTalk c.nodes (length c.order) a draws replies
+IsHonestPosition c m (Ended e t) = (e ≡ Certified (honest_answer c.nodes (length c.order))) × (m ≡ 1 + length (turns c.nodes (length c.order)))
 
 -- a draw more at most
 draws_step : (ts : List Turn) (t : ℕ)
@@ -126,29 +128,35 @@ more_draws nodes levels t b e = subst (λ z. draws_before nodes levels (suc t) �
 go_on_more : (c : OrderedCircuit) (draw : ℕ → ℕ) → ((n : ℕ) → draw n < modulus) → (draws : List ℕ) (replies : List Reply) (n t : ℕ)
     → t < length (turns c.nodes (length c.order)) → replies ≡ honest_replies c.nodes (length c.order) draws (suc t) → All (λ r. r < modulus) draws
     → draws_before c.nodes (length c.order) t ≤ length draws
-    → IsHonestPosition c (go_on draw (Talked (honest_answer c.nodes (length c.order)) draws replies) n (what_stands c.nodes (length c.order) (suc t)))
+    → IsHonestPosition c (suc (suc t)) (go_on draw (Talked (honest_answer c.nodes (length c.order)) draws replies) n (what_stands c.nodes (length c.order) (suc t)))
 go_on_more c draw below draws replies n t l said elements drawn = elim (cases_eq (suc t) (length (turns c.nodes (length c.order)))) [
-  | inl e ↦ subst there (sym (cond-true _ _ _ (eq-eqb (suc t) (length (turns c.nodes (length c.order))) e))) refl
+  | inl e ↦ subst there (sym (cond-true _ _ _ (eq-eqb (suc t) (length (turns c.nodes (length c.order))) e))) (refl, omega arith)
   | inr ne ↦ subst there (sym (cond-false _ _ _ (ne_eqb (suc t) (length (turns c.nodes (length c.order))) ne))) (elim (cases_Bool (is_polys (get_or (turns c.nodes (length c.order)) t (ForValues 0)))) [
-    | inl b ↦ subst (λ z. there (cond z Draw Go)) (sym b) (record {
-      right = refl;
-      said = said ∙ (sym (settled c.nodes (length c.order) draws (draw n ∷ []) (suc t) l earlier) ∙ ap (honest_replies c.nodes (length c.order) (draws ++ draw n ∷ [])) (sym long));
-      elements = All-append (λ r. r < modulus) draws (draw n ∷ []) elements (All-cons (λ r. r < modulus) (draw n) [] (below n) (All-nil (λ r. r < modulus)));
-      left = omega (arith, long);
-      drawn = (let count = more_draws c.nodes (length c.order) t true b in omega (arith, ap (draws_before c.nodes (length c.order)) long, length_push draws (draw n)));
-    })
-    | inr b ↦ subst (λ z. there (cond z Draw Go)) (sym b) (record {
-      right = refl;
-      said = said ∙ ap (honest_replies c.nodes (length c.order) draws) (sym long);
-      elements = elements;
-      left = omega (arith, long);
-      drawn = (let count = more_draws c.nodes (length c.order) t false b in omega (arith, ap (draws_before c.nodes (length c.order)) long));
-    })
+    | inl b ↦ subst (λ z. there (cond z Draw Go)) (sym b) (
+      ap suc (sym long),
+      record {
+        right = refl;
+        said = said ∙ (sym (settled c.nodes (length c.order) draws (draw n ∷ []) (suc t) l earlier) ∙ ap (honest_replies c.nodes (length c.order) (draws ++ draw n ∷ [])) (sym long));
+        elements = All-append (λ r. r < modulus) draws (draw n ∷ []) elements (All-cons (λ r. r < modulus) (draw n) [] (below n) (All-nil (λ r. r < modulus)));
+        left = omega (arith, long);
+        drawn = (let count = more_draws c.nodes (length c.order) t true b in omega (arith, ap (draws_before c.nodes (length c.order)) long, length_push draws (draw n)));
+      },
+    )
+    | inr b ↦ subst (λ z. there (cond z Draw Go)) (sym b) (
+      ap suc (sym long),
+      record {
+        right = refl;
+        said = said ∙ ap (honest_replies c.nodes (length c.order) draws) (sym long);
+        elements = elements;
+        left = omega (arith, long);
+        drawn = (let count = more_draws c.nodes (length c.order) t false b in omega (arith, ap (draws_before c.nodes (length c.order)) long));
+      },
+    )
   ])
 ]
   where
     there : Next → Type 0
-    there next = IsHonestPosition c (go_on draw (Talked (honest_answer c.nodes (length c.order)) draws replies) n next)
+    there next = IsHonestPosition c (suc (suc t)) (go_on draw (Talked (honest_answer c.nodes (length c.order)) draws replies) n next)
 
     long : length replies ≡ suc t
     long = ap length said ∙ length-replies c.nodes (length c.order) draws (suc t)
@@ -162,30 +170,34 @@ none_said nodes levels draws = refl
 
 -- the position after the answer
 first_step : (c : OrderedCircuit) → IsShaped c.nodes (length c.order) → (draw : ℕ → ℕ) (n : ℕ)
-    → IsHonestPosition c (go_on draw (Talked (honest_answer c.nodes (length c.order)) [] []) n (judged c.nodes (length c.order) (honest_answer c.nodes (length c.order)) [] []))
+    → IsHonestPosition c 1 (go_on draw (Talked (honest_answer c.nodes (length c.order)) [] []) n (judged c.nodes (length c.order) (honest_answer c.nodes (length c.order)) [] []))
 first_step c shaped draw n =
     let nodes = c.nodes in
     let levels = length c.order in
     let stands : judged nodes levels (honest_answer nodes levels) [] [] ≡ what_stands nodes levels 0 =
     ap (judged nodes levels (honest_answer nodes levels) []) (sym (none_said nodes levels [])) ∙ judged_honest nodes levels shaped [] (All-nil (λ r. r < modulus)) 0 in
     subst there (sym stands) (elim (cases_eq 0 (length (turns nodes levels))) [
-      | inl e ↦ subst there (sym (cond-true _ _ _ (eq-eqb 0 (length (turns nodes levels)) e))) refl
-      | inr ne ↦ subst there (sym (cond-false _ _ _ (ne_eqb 0 (length (turns nodes levels)) ne))) (record {
-        right = refl;
-        said = sym (none_said nodes levels []);
-        elements = All-nil (λ r. r < modulus);
-        left = omega arith;
-        drawn = omega arith;
-      })
+      | inl e ↦ subst there (sym (cond-true _ _ _ (eq-eqb 0 (length (turns nodes levels)) e))) (refl, omega arith)
+      | inr ne ↦ subst there (sym (cond-false _ _ _ (ne_eqb 0 (length (turns nodes levels)) ne))) (
+        refl,
+        record {
+          right = refl;
+          said = sym (none_said nodes levels []);
+          elements = All-nil (λ r. r < modulus);
+          left = omega arith;
+          drawn = omega arith;
+        },
+      )
     ])
   where
     there : Next → Type 0
-    there next = IsHonestPosition c (go_on draw (Talked (honest_answer c.nodes (length c.order)) [] []) n next)
+    there next = IsHonestPosition c 1 (go_on draw (Talked (honest_answer c.nodes (length c.order)) [] []) n next)
 
-read_reply : (c : OrderedCircuit) (draw : ℕ → ℕ) (ask : Ask) (a : Bool) (draws : List ℕ) (replies : List Reply) (n : ℕ) (r : Reply)
-    → read_on c draw (Awaits ask (Talked a draws replies) n) (Some (said_of r)) ≡ go_on draw (Talked a draws (replies ++ r ∷ [])) n (verdict c.nodes (length c.order) a draws replies r)
-read_reply c draw ask a draws replies n (Polys ps) = refl
-read_reply c draw ask a draws replies n (Values u w) = refl
+read_reply : (x : Instance) (draw : ℕ → ℕ) (ask : Ask) (a : Bool) (draws : List ℕ) (replies : List Reply) (n : ℕ) (r : Reply)
+    → read_on x draw (Awaits ask (Talked a draws replies) n) (Some (said_of r))
+    ≡ go_on draw (Talked a draws (replies ++ r ∷ [])) n (verdict x.circuit.nodes (length x.circuit.order) a draws replies r)
+read_reply x draw ask a draws replies n (Polys ps) = refl
+read_reply x draw ask a draws replies n (Values u w) = refl
 
 -- the verdict on the next honest reply
 next_verdict : (nodes : List Node) (levels : ℕ) → IsShaped nodes levels → (draws : List ℕ) (replies : List Reply) (r : Reply)
@@ -200,11 +212,12 @@ next_verdict nodes levels shaped draws replies r h is more =
     fits_judged nodes (suc t) (get_or (turns nodes levels) t (ForValues 0)) r _ fits
     ∙ (ap (judged nodes levels (honest_answer nodes levels) draws) more ∙ judged_honest nodes levels shaped draws h.elements (suc t))
 
-talk_step : (c : OrderedCircuit) → IsShaped c.nodes (length c.order) → (draw : ℕ → ℕ) → ((n : ℕ) → draw n < modulus) → (ask : Ask) (draws : List ℕ) (replies : List Reply) (n : ℕ)
-    → IsHonestTalk c.nodes (length c.order) (honest_answer c.nodes (length c.order)) draws replies
-    → IsHonestPosition c (read_on c draw (Awaits ask (Talked (honest_answer c.nodes (length c.order)) draws replies) n)
-    (Some (honest_reply c (Talked (honest_answer c.nodes (length c.order)) draws replies))))
-talk_step c shaped draw below ask draws replies n h =
+talk_step : (x : Instance) → IsShaped x.circuit.nodes (length x.circuit.order) → (draw : ℕ → ℕ) → ((n : ℕ) → draw n < modulus) → (ask : Ask) (draws : List ℕ) (replies : List Reply) (n : ℕ)
+    → IsHonestTalk x.circuit.nodes (length x.circuit.order) (honest_answer x.circuit.nodes (length x.circuit.order)) draws replies
+    → IsHonestPosition x.circuit (suc (suc (length replies))) (read_on x draw (Awaits ask (Talked (honest_answer x.circuit.nodes (length x.circuit.order)) draws replies) n)
+    (Some (honest_reply x (Talked (honest_answer x.circuit.nodes (length x.circuit.order)) draws replies))))
+talk_step x shaped draw below ask draws replies n h =
+    let c = x.circuit in
     let nodes = c.nodes in
     let levels = length c.order in
     let b = honest_answer nodes levels in
@@ -213,29 +226,42 @@ talk_step c shaped draw below ask draws replies n h =
     let more : replies ++ r ∷ [] ≡ honest_replies nodes levels draws (suc t) =
     ap (λ z. replies ++ z ∷ []) (entry_is nodes levels draws (suc t) t (omega arith))
     ∙ (ap (λ z. z ++ reply_at nodes levels draws t ∷ []) h.said ∙ sym (replies_more nodes levels draws t)) in
-    subst (IsHonestPosition c) (sym (read_reply c draw ask b draws replies n r))
-    (subst (λ z. IsHonestPosition c (go_on draw (Talked b draws (replies ++ r ∷ [])) n z)) (sym (next_verdict nodes levels shaped draws replies r h refl more))
+    subst (IsHonestPosition c (suc (suc t))) (sym (read_reply x draw ask b draws replies n r))
+    (subst (λ z. IsHonestPosition c (suc (suc t)) (go_on draw (Talked b draws (replies ++ r ∷ [])) n z)) (sym (next_verdict nodes levels shaped draws replies r h refl more))
     (go_on_more c draw below draws (replies ++ r ∷ []) n t h.left more h.elements h.drawn))
 
-step : (c : OrderedCircuit) → IsShaped c.nodes (length c.order) → (draw : ℕ → ℕ) → ((n : ℕ) → draw n < modulus) → (ask : Ask) (talk : Talk) (n : ℕ)
-    → IsHonestPosition c (Awaits ask talk n) → IsHonestPosition c (read_on c draw (Awaits ask talk n) (Some (honest_reply c talk)))
-step c shaped draw below ask Silent n h = first_step c shaped draw n
-step c shaped draw below ask (Talked a draws replies) n h =
-    subst (λ z. IsHonestTalk c.nodes (length c.order) z draws replies → IsHonestPosition c (read_on c draw (Awaits ask (Talked z draws replies) n) (Some (honest_reply c (Talked z draws replies)))))
-    (sym h.right) (talk_step c shaped draw below ask draws replies n) h
+step : (x : Instance) → IsShaped x.circuit.nodes (length x.circuit.order) → (draw : ℕ → ℕ) → ((n : ℕ) → draw n < modulus) → (m : ℕ) (ask : Ask) (talk : Talk) (n : ℕ)
+    → IsHonestPosition x.circuit m (Awaits ask talk n) → IsHonestPosition x.circuit (suc m) (read_on x draw (Awaits ask talk n) (Some (honest_reply x talk)))
+step x shaped draw below m ask Silent n h =
+    subst (λ z. IsHonestPosition x.circuit (suc z) (read_on x draw (Awaits ask Silent n) (Some (honest_reply x Silent)))) (sym h) (first_step x.circuit shaped draw n)
+step x shaped draw below m ask (Talked a draws replies) n h =
+    subst (λ z. IsHonestPosition x.circuit (suc z) (read_on x draw (Awaits ask (Talked a draws replies) n) (Some (honest_reply x (Talked a draws replies))))) (sym h.0)
+    (subst (λ z. IsHonestTalk x.circuit.nodes (length x.circuit.order) z draws replies
+    → IsHonestPosition x.circuit (suc (suc (length replies))) (read_on x draw (Awaits ask (Talked z draws replies) n) (Some (honest_reply x (Talked z draws replies)))))
+    (sym h.1.right) (talk_step x shaped draw below ask draws replies n) h.1)
 
-at_end : (c : OrderedCircuit) (p : Position) → IsHonestPosition c p → GoesOnOrAccepts (honest_answer c.nodes (length c.order)) p
-at_end c (Awaits ask Silent n) h = tt
-at_end c (Awaits ask (Talked a draws replies) n) h = tt
-at_end c (Ended e) h = h
+at_end : (x : Instance) (m : ℕ) (p : Position) → IsHonestPosition x.circuit m p → GoesOnOrAccepts x (honest_answer x.circuit.nodes (length x.circuit.order)) m p
+at_end x m (Awaits ask Silent n) h = omega arith
+at_end x m (Awaits ask (Talked a draws replies) n) h = let left = h.1.left in omega arith
+at_end x m (Ended e t) h = h
 
-keeps : (c : OrderedCircuit) → IsShaped c.nodes (length c.order) → (draw : ℕ → ℕ) → ((n : ℕ) → draw n < modulus) → (readings : List (Option Said)) (p : Position)
-    → IsHonestPosition c p → AreHonest c draw p readings → GoesOnOrAccepts (honest_answer c.nodes (length c.order)) (position_after c draw p readings)
-keeps c shaped draw below [] p h honest = at_end c p h
-keeps c shaped draw below (r ∷ rs) (Ended e) h honest = absurd honest
-keeps c shaped draw below (r ∷ rs) (Awaits ask talk n) h honest =
-    keeps c shaped draw below rs (read_on c draw (Awaits ask talk n) r)
-    (subst (λ z. IsHonestPosition c (read_on c draw (Awaits ask talk n) z)) (sym honest.0) (step c shaped draw below ask talk n h)) honest.1
+keeps : (x : Instance) → IsShaped x.circuit.nodes (length x.circuit.order) → (draw : ℕ → ℕ) → ((n : ℕ) → draw n < modulus) → (readings : List (Option Said)) (m : ℕ) (p : Position)
+    → IsHonestPosition x.circuit m p → AreHonest x draw p readings → GoesOnOrAccepts x (honest_answer x.circuit.nodes (length x.circuit.order)) (m + length readings) (position_after x draw p readings)
+keeps x shaped draw below [] m p h honest =
+    subst (λ n. GoesOnOrAccepts x (honest_answer x.circuit.nodes (length x.circuit.order)) n p) (sym (none m)) (at_end x m p h)
+  where
+    none : (m : ℕ) → m + 0 ≡ m
+    none m = omega arith
+keeps x shaped draw below (r ∷ rs) m (Ended e t) h honest = absurd honest
+keeps x shaped draw below (r ∷ rs) m (Awaits ask talk n) h honest =
+    subst (λ z. GoesOnOrAccepts x (honest_answer x.circuit.nodes (length x.circuit.order)) z (position_after x draw (read_on x draw (Awaits ask talk n) r) rs)) (one m (length rs))
+    (keeps x shaped draw below rs (suc m) (read_on x draw (Awaits ask talk n) r)
+    (subst (λ z. IsHonestPosition x.circuit (suc m) (read_on x draw (Awaits ask talk n) z)) (sym honest.0) (step x shaped draw below m ask talk n h)) honest.1)
+  where
+    one : (m k : ℕ) → suc m + k ≡ m + suc k
+    one m k = omega arith
 
 pub honest_way : HonestConversationAccepts
-honest_way c shaped draw below h readings honest = keeps c shaped draw below readings (beginning h) tt honest
+honest_way x shaped draw below readings honest =
+    subst (λ n. GoesOnOrAccepts x (honest_answer x.circuit.nodes (length x.circuit.order)) n (position_after x draw (beginning x) readings)) (zero-add (length readings))
+    (keeps x shaped draw below readings 0 (beginning x) refl honest)

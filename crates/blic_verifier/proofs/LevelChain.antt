@@ -20,7 +20,7 @@ use Rattle.blic_model.proofs.Depends.{part_depends}
 use Rattle.blic_claims.specs.Claims.{Transcript, Claim, no_claim, node_point, claims_on, point_at}
 use Rattle.blic_claims.proofs.Drawn.{AllLevelled, point_at_more, point_at_start, point_at_own, point_at_end, IsPoint-point_at}
 use Rattle.blic_verifier.specs.Acceptance.{sent, value_at, binary_checks}
-use Rattle.blic_verifier.specs.Soundness.{SomeDrawIsBad}
+use Rattle.blic_verifier.proofs.Roots.{SomeRootIsDrawn}
 use Rattle.blic_verifier.proofs.HeldChecks.{Holds, poly_passes, ends_passes, combine_passes}
 
 -- equality of polynomials is decided
@@ -66,7 +66,7 @@ chain_step : (nodes : List Node) (levels : ℕ) → AllOrdered nodes → (T : Tr
     → k < length nodes → is_binary (node_at nodes k) ≡ true → i < length (free nodes levels k)
     → (j : ℕ) → j < length (claims_on nodes levels T k) → (c : Claim) → get_or (claims_on nodes levels T k) j no_claim ≡ c → IsPoint c.point
     → reduced_at (sent T k i j) (c.point (get_or (free nodes levels k) i 0)) ≡ value_at nodes levels T k j c (i + 1)
-    → IsTrueAt nodes levels T k j c i → SomeDrawIsBad nodes levels T ⊎ IsTrueAt nodes levels T k j c (i + 1)
+    → IsTrueAt nodes levels T k j c i → SomeRootIsDrawn nodes levels T ⊎ IsTrueAt nodes levels T k j c (i + 1)
 chain_step nodes levels o T k i d lk b l j lj c e p check here =
     let s = point_at nodes levels T k c (i + 1) in
     let ps : IsPoint s = IsPoint-point_at nodes levels T k c (i + 1) d p in
@@ -86,12 +86,12 @@ chain : (nodes : List Node) (levels : ℕ) → AllOrdered nodes → (T : Transcr
     → ((i : ℕ) → i < length (free nodes levels k)
     → reduced_at (sent T k i j) (c.point (get_or (free nodes levels k) i 0)) ≡ value_at nodes levels T k j c (i + 1))
     → IsTrueAt nodes levels T k j c 0 → (i : ℕ) → i ≤ length (free nodes levels k)
-    → SomeDrawIsBad nodes levels T ⊎ IsTrueAt nodes levels T k j c i
+    → SomeRootIsDrawn nodes levels T ⊎ IsTrueAt nodes levels T k j c i
 chain nodes levels o T k d lk b j lj c e p check start zero l = inr start
 chain nodes levels o T k d lk b j lj c e p check start (suc i) l =
     elim (chain nodes levels o T k d lk b j lj c e p check start i (omega arith)) [
       | inl bad ↦ inl bad
-      | inr here ↦ subst (λ n. SomeDrawIsBad nodes levels T ⊎ IsTrueAt nodes levels T k j c n) (one i)
+      | inr here ↦ subst (λ n. SomeRootIsDrawn nodes levels T ⊎ IsTrueAt nodes levels T k j c n) (one i)
           (chain_step nodes levels o T k i d lk b (omega arith) j lj c e p (check i (omega arith)) here)
     ]
   where
@@ -100,7 +100,7 @@ chain nodes levels o T k d lk b j lj c e p check start (suc i) l =
 
 -- claim c on node k is true, unless a draw was bad
 abbrev pub IsTrueOrBad : List Node → ℕ → Transcript → ℕ → Claim → Type 0
-IsTrueOrBad nodes levels T k c = SomeDrawIsBad nodes levels T ⊎ (c.value ≡ value nodes levels k c.point)
+IsTrueOrBad nodes levels T k c = SomeRootIsDrawn nodes levels T ⊎ (c.value ≡ value nodes levels k c.point)
 
 -- a binary node: where the operands' values are true at its point, each of its claims is true, or some draw was bad
 pub binary_sound : (nodes : List Node) (levels : ℕ) → AllOrdered nodes → AllLevelled nodes levels

@@ -4,6 +4,7 @@ pub mod AddedDraw
 pub mod AddedReply
 pub mod BadCount
 pub mod BinaryWalk
+pub mod CertifiedWorth
 pub mod ChildClaims
 pub mod ClaimElements
 pub mod Classes
@@ -13,6 +14,8 @@ pub mod FaultKept
 pub mod Finding
 pub mod Fitting
 pub mod FixedBefore
+pub mod Followed
+pub mod GoingOn
 pub mod Handing
 pub mod HeldChecks
 pub mod HonestEntries
@@ -22,12 +25,15 @@ pub mod HonestWay
 pub mod Judging
 pub mod LeafWalks
 pub mod LevelChain
+pub mod LongFrames
 pub mod NodeWalks
 pub mod OfElements
 pub mod PairPlaces
 pub mod Passing
+pub mod Placed
 pub mod PolysReply
 pub mod PolysSaid
+pub mod Roots
 pub mod Settling
 pub mod Shown
 pub mod ShownFirst

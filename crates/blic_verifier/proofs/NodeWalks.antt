@@ -1,5 +1,5 @@
 -- A walk past each kind of node that is not binary.
-use Rattle.std.proofs.Common.{ℕ, suc, ◌≡◌, ◌+◌, ◌-◌, ◌<◌, ◌≤◌, ap, ◌⊎◌, List, length, get_or, Bool}
+use Rattle.std.proofs.Common.{ℕ, suc, ◌≡◌, ◌+◌, ◌<◌, ◌≤◌, ap, ◌⊎◌, List, length, get_or, Bool}
 use Rattle.std.specs.Prelude.{sum_by}
 use Rattle.blic_field.specs.Field.{sub}
 use Rattle.blic_model.specs.declared.node.Node.TheVariants.{Not, Fix}

@@ -1,5 +1,5 @@
 -- A walk past a node that is not binary.
-use Rattle.std.proofs.Common.{arith, ℕ, suc, ◌≡◌, ◌+◌, ◌-◌, ◌<◌, ◌≤◌, refl, sym, ◌∙◌, ap, subst, ◌⊎◌, inl, inr, List, [], length, get_or, Bool, false}
+use Rattle.std.proofs.Common.{arith, ℕ, suc, ◌≡◌, ◌+◌, ◌<◌, ◌≤◌, refl, sym, ◌∙◌, ap, subst, ◌⊎◌, inl, inr, List, [], length, get_or, Bool, false}
 use Rattle.std.specs.Prelude.{filter, find, sum_by}
 use Rattle.std.proofs.lemmas.Bool.{cases_eq, cases_lt}
 use Rattle.blic_model.specs.declared.node.Node.{Node}
@@ -16,7 +16,7 @@ use Rattle.blic_verifier.specs.Holding.{value_in, WalksTo}
 use Rattle.blic_verifier.proofs.ShownKept.{is_shown}
 use Rattle.blic_verifier.proofs.Clear.{clear_more}
 use Rattle.blic_claims.proofs.Starting.{start_same}
-use Rattle.blic_claims.proofs.Held.{count_own, hands}
+use Rattle.blic_claims.proofs.Held.{count_own}
 use Rattle.blic_claims.proofs.Rows.{is_row, sum_apart, handed_within}
 use Rattle.blic_claims.proofs.AllTurns.{all_replies, all_draws}
 

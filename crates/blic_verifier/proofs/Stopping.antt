@@ -1,5 +1,5 @@
 -- The walk from one binary node to the next.
-use Rattle.std.proofs.Common.{arith, ℕ, suc, ◌≡◌, ◌-◌, refl, sym, ◌∙◌, ap, List, length, get_or, Bool, true, eqb}
+use Rattle.std.proofs.Common.{arith, ℕ, suc, ◌≡◌, refl, sym, ◌∙◌, ap, List, length, get_or, Bool, true, eqb}
 use Rattle.std.proofs.lemmas.Bool.{eq-eqb, cond-true}
 use Rattle.blic_field.specs.Quadratic.{at}
 use Rattle.blic_model.specs.Circuit.{node_at, free}

@@ -7,10 +7,11 @@ use Rattle.std.proofs.lemmas.List.Sums.{sum_by-cons, sum_by-append, sum_by_push,
 use Rattle.blic_model.specs.declared.node.Node.{Node}
 use Rattle.blic_model.specs.Circuit.{node_at, below, free}
 use Rattle.blic_model.specs.Counts.{is_binary, claims, points}
-use Rattle.blic_claims.specs.Turns.{Turn, ForPolys, ForValues, node_turns, turns, transcript}
+use Rattle.blic_claims.specs.Turns.{Turn, ForPolys, ForValues, node_turns, turns}
 use Rattle.blic_claims.proofs.Lists.{Contains-head, Contains-below, Contains-reverse, All-reverse_below, all_left, all_right, all_in_flat_map, all_in_map}
 use Rattle.blic_claims.proofs.Turns.{turns_of, length-polys_turns}
-use Rattle.blic_verifier.specs.SoundnessLaws.{AreBadAt, FewBadAtADraw, FewBadInAll}
+use Rattle.blic_verifier.specs.Soundness.{AreBadAt}
+use Rattle.blic_verifier.specs.SoundnessLaws.{FewBadAtADraw, FewBadInAll}
 
 -- a sum part by part
 sum_within : {X Y : Type 0} (f : Y → ℕ) (g : X → List Y) (h : X → ℕ) (xs : List X) → ((x : X) → Contains xs x → sum_by f (g x) ≤ 2 * h x)
@@ -52,12 +53,11 @@ pub few_bad_in_all : FewBadAtADraw → FewBadInAll
 unfolding turns points
 few_bad_in_all at_draw prime nodes levels shape answer draws replies e elements h =
     let all = reverse (below (length nodes)) in
-    let T = transcript nodes levels answer draws replies in
     let coordinates : ℕ → ℕ = λ k. cond (is_binary (node_at nodes k)) (claims nodes k * length (free nodes levels k)) 0 in
     subst (λ n. sum_by (λ t. length (elements t)) (flat_map (node_turns nodes levels) all) ≤ 2 * n)
     (sum_by-IsPermutation coordinates (below (length nodes)) all (IsPermutation-reverse (below (length nodes))))
     (sum_within (λ t. length (elements t)) (node_turns nodes levels) coordinates all (λ k c.
     let inside : k < length nodes = All-contains (λ k. k < length nodes) all k (All-reverse_below (length nodes)) c in
-    node_within nodes levels k (claims nodes k) (λ t. AreBadAt nodes levels T t (elements t)) (λ t. length (elements t))
-    (all_in_flat_map (λ t. AreBadAt nodes levels T t (elements t)) (node_turns nodes levels) all k h c)
+    node_within nodes levels k (claims nodes k) (λ t. AreBadAt nodes levels answer draws replies t (elements t)) (λ t. length (elements t))
+    (all_in_flat_map (λ t. AreBadAt nodes levels answer draws replies t (elements t)) (node_turns nodes levels) all k h c)
     (λ none. none) (λ i l few. at_draw prime nodes levels shape answer draws replies e k i inside l (elements (ForPolys k i)) few.0 few.1)))

@@ -86,7 +86,7 @@ polys_of_node nodes levels t k i l e = elim (turn_place nodes levels t l) [
   | inr p ↦ other_kind p.node k i (sym (values_turn_is nodes levels t p) ∙ e)
 ]
 
-more_turns : (nodes : List Node) (levels t : ℕ) → t < length (turns nodes levels) → is_polys (get_or (turns nodes levels) t (ForValues 0)) ≡ true
+pub more_turns : (nodes : List Node) (levels t : ℕ) → t < length (turns nodes levels) → is_polys (get_or (turns nodes levels) t (ForValues 0)) ≡ true
     → suc t < length (turns nodes levels)
 more_turns nodes levels t l e = elim (turn_place nodes levels t l) [
   | inl p ↦

@@ -1,7 +1,7 @@
 -- What a verifier keeps to, as its private contracts speak of it.
 use Rattle.std.specs.Prelude.{ℕ, suc, ◌≡◌, ◌<◌, ◌≤◌, Bool, true, false, List, length}
 use Rattle.blic_model.specs.Circuit.{OrderedCircuit, node_at, free}
-use Rattle.blic_model.specs.Counts.{is_binary, claims}
+use Rattle.blic_model.specs.Counts.{is_binary}
 use Rattle.blic_claims.specs.Places.{Places, layout_of, HasMostClaims}
 use Rattle.blic_claims.specs.Points.{PointTable}
 use Rattle.blic_claims.specs.Turns.{Reply, turns}

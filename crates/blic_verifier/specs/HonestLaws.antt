@@ -1,21 +1,17 @@
 -- The law of acceptance: whatever is drawn, the honest replies pass.
-use Rattle.std.specs.Prelude.{ℕ, suc, ◌≡◌, ◌<◌, true, List, slice_index_or, length, All, Option}
+use Rattle.std.specs.Prelude.{ℕ, suc, ◌≡◌, ◌<◌, Bool, true, List, slice_index_or, length, All, Option}
 use Rattle.blic_field.specs.Field.{modulus}
 use Rattle.blic_model.specs.declared.node.Node.{Node}
-use Rattle.blic_model.specs.Formula.{PrenexFormula}
-use Rattle.blic_model.specs.Limits.{IsFormula}
-use Rattle.blic_model.specs.Truth.{truth}
-use Rattle.blic_model.specs.Building.{circuit_of}
 use Rattle.blic_model.specs.Circuit.{OrderedCircuit, node_at, free}
 use Rattle.blic_model.specs.Shape.{IsShaped}
 use Rattle.blic_model.specs.Counts.{is_binary, draws as draw_count}
+use Rattle.blic_model.specs.Value.{RootIs}
 use Rattle.blic_claims.specs.Turns.{ForPolys, ForValues, Fits, is_polys, no_reply, turns}
 use Rattle.blic_claims.specs.Honest.{honest_answer, honest_replies}
 use Rattle.blic_messages.specs.Replies.{Said}
-use Rattle.blic_messages.specs.declared.ask.Hello.{Hello}
 use Rattle.blic_verifier.specs.Acceptance.{Passes}
 use Rattle.blic_verifier.specs.SoundnessLaws.{ReplyHasElements}
-use Rattle.blic_verifier.specs.Conversation.{AreHonest, GoesOnOrAccepts, beginning, position_after}
+use Rattle.blic_verifier.specs.Conversation.{Instance, AreHonest, GoesOnOrAccepts, beginning, position_after}
 
 -- all draws of a conversation: as many elements as it has
 abbrev pub AreDraws : List Node → ℕ → List ℕ → Type 0
@@ -27,19 +23,19 @@ HonestRepliesPass =
     (nodes : List Node) (levels : ℕ) → IsShaped nodes levels → (draws : List ℕ) → AreDraws nodes levels draws
     → Passes nodes levels (honest_answer nodes levels) draws (honest_replies nodes levels draws (length (turns nodes levels)))
 
--- about the circuit of a formula, with the formula's truth as the answer
+-- with the truth that the root stands for as the answer
 abbrev pub HonestRepliesPassWithTruth : Type 0
 HonestRepliesPassWithTruth =
-    (f : PrenexFormula) → IsFormula f → (draws : List ℕ) → AreDraws (circuit_of f).nodes (length (circuit_of f).order) draws
-    → (honest_answer (circuit_of f).nodes (length (circuit_of f).order) ≡ truth f)
-    × Passes (circuit_of f).nodes (length (circuit_of f).order) (truth f) draws
-    (honest_replies (circuit_of f).nodes (length (circuit_of f).order) draws (length (turns (circuit_of f).nodes (length (circuit_of f).order))))
+    (c : OrderedCircuit) (t : Bool) → IsShaped c.nodes (length c.order) → RootIs c t → (draws : List ℕ) → AreDraws c.nodes (length c.order) draws
+    → (honest_answer c.nodes (length c.order) ≡ t)
+    × Passes c.nodes (length c.order) t draws (honest_replies c.nodes (length c.order) draws (length (turns c.nodes (length c.order))))
 
--- a conversation in which each reply is the honest one goes on, or has ended with the root's value accepted
+-- a conversation in which each reply is the honest one goes on until each turn had its reply, and then has ended with the root's value accepted
 abbrev pub HonestConversationAccepts : Type 0
 HonestConversationAccepts =
-    (c : OrderedCircuit) → IsShaped c.nodes (length c.order) → (draw : ℕ → ℕ) → ((n : ℕ) → draw n < modulus) → (h : Hello) → (readings : List (Option Said))
-    → AreHonest c draw (beginning h) readings → GoesOnOrAccepts (honest_answer c.nodes (length c.order)) (position_after c draw (beginning h) readings)
+    (x : Instance) → IsShaped x.circuit.nodes (length x.circuit.order) → (draw : ℕ → ℕ) → ((n : ℕ) → draw n < modulus) → (readings : List (Option Said))
+    → AreHonest x draw (beginning x) readings
+    → GoesOnOrAccepts x (honest_answer x.circuit.nodes (length x.circuit.order)) (length readings) (position_after x draw (beginning x) readings)
 
 -- each honest reply fits its turn, and its numbers are elements
 abbrev pub HonestReplyFits : Type 0

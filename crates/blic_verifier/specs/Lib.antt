@@ -1,5 +1,7 @@
 pub mod Acceptance
 pub mod Accepting
+pub mod Asking
+pub mod Certified
 pub mod Conversation
 pub mod Fitted
 pub mod Holding

@@ -3,18 +3,14 @@ use Rattle.std.specs.Prelude.{ℕ, ◌≡◌, ◌*◌, ◌<◌, ◌≤◌, Bool,
 use Rattle.blic_field.specs.Field.{modulus, IsPrime}
 use Rattle.blic_field.specs.Quadratic.{HasElements}
 use Rattle.blic_model.specs.declared.node.Node.{Node}
-use Rattle.blic_model.specs.Formula.{PrenexFormula}
-use Rattle.blic_model.specs.Limits.{IsFormula}
-use Rattle.blic_model.specs.Truth.{truth}
-use Rattle.blic_model.specs.Circuit.{root, free}
-use Rattle.blic_model.specs.Building.{circuit_of}
+use Rattle.blic_model.specs.Circuit.{OrderedCircuit, root, free}
 use Rattle.blic_model.specs.Shape.{IsShaped}
-use Rattle.blic_model.specs.Value.{bit, value}
+use Rattle.blic_model.specs.Value.{RootIs, bit, value}
 use Rattle.blic_model.specs.Counts.{claims, bad}
-use Rattle.blic_claims.specs.Claims.{Transcript, zero_point}
-use Rattle.blic_claims.specs.Turns.{Turn, ForPolys, ForValues, Reply, Polys, Values, transcript, draw_number, polys_number, no_reply, turns}
+use Rattle.blic_claims.specs.Claims.{zero_point}
+use Rattle.blic_claims.specs.Turns.{Turn, Reply, Polys, Values, draw_number, polys_number, no_reply, turns}
 use Rattle.blic_verifier.specs.Acceptance.{Passes}
-use Rattle.blic_verifier.specs.Soundness.{IsBad, SomeDrawIsBad}
+use Rattle.blic_verifier.specs.Soundness.{AreBadAt, IsBad, SomeDrawIsBad}
 
 -- the numbers of a reply are elements
 abbrev pub ReplyHasElements : Reply → Type 0
@@ -30,14 +26,13 @@ abbrev pub WrongValueHasBadDraw : Type 0
 WrongValueHasBadDraw =
     (nodes : List Node) (levels : ℕ) → IsShaped nodes levels → (answer : Bool) (draws : List ℕ) (replies : List Reply) → AreElements draws replies
     → Passes nodes levels answer draws replies → (bit answer ≡ value nodes levels (root nodes) zero_point → ⊥)
-    → SomeDrawIsBad nodes levels (transcript nodes levels answer draws replies)
+    → SomeDrawIsBad nodes levels answer draws replies
 
--- an accepted conversation about the circuit of a formula whose answer isn't the formula's truth has a bad draw
+-- an accepted conversation whose answer isn't the truth that the root stands for has a bad draw
 abbrev pub WrongTruthHasBadDraw : Type 0
 WrongTruthHasBadDraw =
-    (f : PrenexFormula) → IsFormula f → (answer : Bool) (draws : List ℕ) (replies : List Reply) → AreElements draws replies
-    → Passes (circuit_of f).nodes (length (circuit_of f).order) answer draws replies → (answer ≡ truth f → ⊥)
-    → SomeDrawIsBad (circuit_of f).nodes (length (circuit_of f).order) (transcript (circuit_of f).nodes (length (circuit_of f).order) answer draws replies)
+    (c : OrderedCircuit) (t : Bool) → IsShaped c.nodes (length c.order) → RootIs c t → (answer : Bool) (draws : List ℕ) (replies : List Reply) → AreElements draws replies
+    → Passes c.nodes (length c.order) answer draws replies → (answer ≡ t → ⊥) → SomeDrawIsBad c.nodes (length c.order) answer draws replies
 
 -- which elements are bad at a draw is fixed by the answer, the draws before it and the replies before it
 abbrev pub BadIsFixedBefore : Type 0
@@ -46,7 +41,7 @@ BadIsFixedBefore =
     → k < length nodes → i < length (free nodes levels k)
     → ((t : ℕ) → t < draw_number nodes levels k i → slice_index_or draws t 0 ≡ slice_index_or others t 0)
     → ((t : ℕ) → t ≤ polys_number nodes levels k i → slice_index_or replies t no_reply ≡ slice_index_or more t no_reply)
-    → IsBad nodes levels (transcript nodes levels answer draws replies) k i r → IsBad nodes levels (transcript nodes levels answer others more) k i r
+    → IsBad nodes levels answer draws replies k i r → IsBad nodes levels answer others more k i r
 
 -- given that the modulus is prime, there are at most two bad elements for each claim on the node of a draw
 abbrev pub FewBadAtADraw : Type 0
@@ -54,17 +49,12 @@ FewBadAtADraw =
     IsPrime modulus → (nodes : List Node) (levels : ℕ) → IsShaped nodes levels → (answer : Bool) (draws : List ℕ) (replies : List Reply) → AreElements draws replies
     → (k i : ℕ) → k < length nodes → i < length (free nodes levels k)
     → (elements : List ℕ) → AllPairs (λ x y. x ≡ y → ⊥) elements
-    → All (λ r. (r < modulus) × IsBad nodes levels (transcript nodes levels answer draws replies) k i r) elements
+    → All (λ r. (r < modulus) × IsBad nodes levels answer draws replies k i r) elements
     → length elements ≤ 2 * claims nodes k
-
--- different bad elements for a turn; none where the turn has no draw
-abbrev pub AreBadAt : List Node → ℕ → Transcript → Turn → List ℕ → Type 0
-AreBadAt nodes levels T (ForPolys k i) elements = AllPairs (λ x y. x ≡ y → ⊥) elements × All (λ r. (r < modulus) × IsBad nodes levels T k i r) elements
-AreBadAt nodes levels T (ForValues k) elements = length elements ≡ 0
 
 -- and over all draws of a conversation there are at most as many as is printed
 abbrev pub FewBadInAll : Type 0
 FewBadInAll =
     IsPrime modulus → (nodes : List Node) (levels : ℕ) → IsShaped nodes levels → (answer : Bool) (draws : List ℕ) (replies : List Reply) → AreElements draws replies
-    → (elements : Turn → List ℕ) → All (λ t. AreBadAt nodes levels (transcript nodes levels answer draws replies) t (elements t)) (turns nodes levels)
+    → (elements : Turn → List ℕ) → All (λ t. AreBadAt nodes levels answer draws replies t (elements t)) (turns nodes levels)
     → sum_by (λ t. length (elements t)) (turns nodes levels) ≤ bad nodes levels

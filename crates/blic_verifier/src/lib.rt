@@ -1,7 +1,9 @@
 //! A verifier whose verdict is acceptance of the whole conversation.
 #![tactic(auto)]
 
+mod asker;
 mod binary;
+mod ending;
 mod held;
 mod honest;
 mod kept;
@@ -13,8 +15,10 @@ mod stage;
 mod verifier;
 mod walk;
 
+pub use asker::{Asker, Following};
+pub use ending::Ending;
 pub use honest::{acceptance_law, honest_reply_law};
-pub use laws::verdict_law;
+pub use laws::{certified_law, verdict_law};
 pub use next::Next;
 pub use place::{Part, Place};
 pub use soundness::{bad_count_law, soundness_law};

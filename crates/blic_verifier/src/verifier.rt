@@ -175,9 +175,9 @@ impl<'c> Verifier<'c> {
         matches!(self.stage, Stage::Over)
     }
 
-    /// Makes the verifier as new.
+    /// Begins a new conversation. All else stays as it was.
     pub fn reset(&mut self)
-        ensures circuit { self.new.circuit ≡ self.old.circuit }
+        ensures exact { self.new ≡ record self.old { stage = Stage.Fresh; turn = 0 } }
         ensures silent { StandsFor self.new Silent }
         ensures open { (is_over self.new.stage ≡ false) × (wants_draw_at self.new.stage ≡ false) }
     {

@@ -1,4 +1,4 @@
-use Rattle.std.proofs.Common.{◌≡◌, ap, ◌∙◌}
+use Rattle.std.proofs.Common.{ap, ◌∙◌}
 use Rattle.rand_chacha.specs.ChaCha.{word_at}
 use Rattle.blic_draw.proofs.Words.{draw_of_words, second_word}
 use Rattle.blic_draw.proofs.draws.Draws.next.Goals as goal

@@ -22,4 +22,4 @@ returns c =
     let count : c.row-root.result.claims ≡ claims circuit.nodes (root circuit.nodes) = own.count ∙ ap (claims circuit.nodes) c.root.ensures in
     let e : suc (root circuit.nodes) ≡ length circuit.nodes = omega (arith, size.0) in
     let all : sum_by (claims circuit.nodes) (below (suc (root circuit.nodes))) ≡ sum_by (claims circuit.nodes) (below (length circuit.nodes)) = ap (λ z. sum_by (claims circuit.nodes) (below z)) e in
-    record { same_rows = c.in_ok-points.ensures; enough = omega (arith, first, count, all, sum_more (claims circuit.nodes) (root circuit.nodes), c.in-Some.ensures.1, c.in_ok-values.ensures.len, c.in_ok-values.values.ok) }
+    record { same_rows = c.in_ok-points.ensures.points; enough = omega (arith, first, count, all, sum_more (claims circuit.nodes) (root circuit.nodes), c.in-Some.ensures.1, c.in_ok-values.ensures.len, c.in_ok-values.values.ok) }

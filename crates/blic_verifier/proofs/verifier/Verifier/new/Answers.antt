@@ -10,7 +10,7 @@ invariant_of-result c =
     record {
       laid_out = c.requires;
       room = c.in_ok-held.ensures;
-      most = λ k l b. omega (arith, c.most_claims.ensures k l b, c.in-Ok.ensures.len, c.in-Ok.polys.ok);
+      most = λ k l b. omega (arith, c.most_claims.ensures.most k l b, c.in-Ok.ensures.len, c.in-Ok.polys.ok);
       at_work = tt;
       few_turns = omega (arith, few_turns circuit.nodes (length circuit.order) size.1 size.2);
     }
