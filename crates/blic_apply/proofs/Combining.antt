@@ -1,6 +1,6 @@
 -- One step up the pairs.
 use Rattle.std.proofs.Common.{arith, ℕ, suc, ◌-◌, ◌^◌, ◌<◌, ◌≤◌, ◌≡◌, ◌≢◌, refl, sym, ◌∙◌, ap, subst, ◌⊎◌, inl, inr, List, length, get_or, Bool, false, true, ◌&&◌, ◌||◌, cond}
-use Rattle.std.specs.Prelude.{min, set}
+use Rattle.std.specs.Prelude.{set}
 use Rattle.std.proofs.lemmas.Bool.{cases_eq, cases_lt}
 use Rattle.std.proofs.lemmas.List.{get_or-set_same, get_or-set_other, length-set}
 use mathlib.Core.Path.{ap₂, fun_ext}
@@ -12,7 +12,6 @@ use Rattle.blic_store.specs.Growth.{Diagrams, Adds, Answers}
 use Rattle.blic_store.proofs.Canonical.{with_bit, with_bit-here, with_bit-other, blind}
 use Rattle.blic_store.proofs.Cofactors.{IsCofactor, is_cofactor}
 use Rattle.blic_store.proofs.Parts.{function-kept, no_shorter, adds_more, level_above}
-use Rattle.blic_store.proofs.Made.{adds_none}
 use Rattle.blic_graph.specs.declared.pair.Pair.{Pair}
 use Rattle.blic_graph.specs.declared.pair.Side.{Side}
 use Rattle.blic_graph.specs.Pairs.{IsSide, StandsAt, IsListed, IsGraph, pair_at}
@@ -166,15 +165,6 @@ done_more op old now new pairs results k made g done d h len a = record {
   ];
 }
 
--- No pair at all: one of the two is constant.
-pub leaf_answers : (op : Op) (xs : Diagrams) (a b t : ℕ) (pairs : List Pair) → IsCall xs.nodes a b pairs → IsLeaf op a b t → Answers (whole op xs.nodes a b) xs xs t
-leaf_answers op xs a b t pairs call leaf =
-    let w = leaf xs.nodes call.a_held call.b_held in
-    record { adds = adds_none (whole op xs.nodes a b) xs.nodes call.canonical; same_limit = refl; held = w.held; value = w.value }
-
-pub constant_one : (old : List Decision) (a b : ℕ) (pairs : List Pair) → IsCall old a b pairs → length pairs ≡ 0 → min a b < 2
-constant_one old a b pairs call e = elim (cases_lt (min a b) 2) [ inl l ↦ l | inr l ↦ absurd (let w = call.graph.some (omega arith) (omega arith) in omega arith) ]
-
 -- What is known at the start of a turn of the loop, which does pair k - 1.
 pub record IsTurn (op : Op) (old now : List Decision) (a b : ℕ) (pairs : List Pair) (results : List ℕ) (k : ℕ) : Type 0 where
   pub call : IsCall old a b pairs
@@ -182,16 +172,6 @@ pub record IsTurn (op : Op) (old now : List Decision) (a b : ℕ) (pairs : List 
   pub one_each : length results ≡ length pairs
   pub in_range : k ≤ length pairs
   pub done : IsDone op old now pairs results k
-
--- The first turn.
-pub turn_first : (op : Op) (old : List Decision) (a b : ℕ) (pairs : List Pair) (results : List ℕ) → IsCall old a b pairs → length results ≡ length pairs → IsTurn op old old a b pairs results (length pairs)
-turn_first op old a b pairs results call e = record {
-  call = call;
-  adds = adds_none (whole op old a b) old call.canonical;
-  one_each = e;
-  in_range = omega arith;
-  done = record { each = λ j l m. absurd (omega arith) };
-}
 
 -- A named pair comes later, so its result is there.
 pub in_range : (op : Op) (old now : List Decision) (a b : ℕ) (pairs : List Pair) (results : List ℕ) (k : ℕ) → IsTurn op old now a b pairs results k → (r s : ℕ) (side : Side) → IsSide pairs side r s → InRange side results
@@ -260,17 +240,4 @@ turn_next op old now new a b pairs results n level low high made turn ne w r =
       in_range = omega arith;
       done = done_more op old now.nodes new.nodes pairs results (n - 1) made (choice_of now.nodes level low high) (subst (IsDone op old now.nodes pairs results) (let q : n ≡ suc (n - 1) = omega arith in q) turn.done)
           r.adds (omega arith) turn.one_each (record { held = r.held; value = λ p. r.value p ∙ asked_is op old now.nodes pairs (n - 1) level low high w p });
-    }
-
--- The answer once all pairs are done.
-pub all_answers : (op : Op) (xs ys : Diagrams) (a b : ℕ) (pairs : List Pair) (results : List ℕ) → IsTurn op xs.nodes ys.nodes a b pairs results 0 → ys.limit ≡ xs.limit → 0 < length pairs
-    → Answers (whole op xs.nodes a b) xs ys (get_or results 0 0)
-all_answers op xs ys a b pairs results turn l some =
-    let root = turn.call.graph.root some in
-    let w = turn.done.each 0 (omega arith) some in
-    record {
-      adds = turn.adds;
-      same_limit = l;
-      held = w.held;
-      value = λ p. w.value p ∙ ap₂ (λ x y. combined op (function xs.nodes x) (function xs.nodes y) p) root.first root.second;
     }

@@ -1,5 +1,5 @@
 -- A request is answered: the pair is new or stood there, and its side names it.
-use Rattle.std.proofs.Common.{arith, ℕ, zero, suc, ◌<◌, ◌≤◌, ◌≡◌, ◌≢◌, refl, sym, ◌∙◌, ap, subst, ◌⊎◌, inl, inr, List, ◌∷◌, length, get_or, map, Bool, true, false}
+use Rattle.std.proofs.Common.{arith, ℕ, zero, suc, ◌<◌, ◌≤◌, ◌≡◌, refl, sym, ◌∙◌, ap, subst, ◌⊎◌, inl, inr, List, ◌∷◌, length, get_or, map, Bool}
 use mathlib.Core.Path.{ap₂}
 use Rattle.std.proofs.lemmas.Bool.{cases_eq, cases_lt}
 use Rattle.std.proofs.lemmas.List.{get_or-map, length-map, length-set, length_push}
@@ -10,13 +10,13 @@ use Rattle.blic_graph.specs.declared.pair.Pair.{Pair}
 use Rattle.blic_graph.specs.declared.pair.Side.{Side}
 use Rattle.blic_graph.specs.declared.waiting.Request.{Request}
 use Rattle.blic_graph.specs.Pairs.{IsInner, IsPairOf, PassesMost, StandsAt, level_of_pair, pair_at}
-use Rattle.blic_graph.specs.Queue.{IsWaiting, request_at}
-use Rattle.blic_graph.specs.Listing.{AddsPair, Found, IsFor, IsFoundPair, IsGoing, IsListing, IsOpen, IsSideSoFar, IsTaken, IsUnderBoth, IsWithoutRoom, first_at, second_at, side_of, with_side}
+use Rattle.blic_graph.specs.Queue.{IsWaiting, bit_of, pair_of}
+use Rattle.blic_graph.specs.Listing.{AddsPair, Found, IsFor, IsFoundPair, IsGoing, IsListing, IsOpen, IsOr, IsSideSoFar, IsTaken, IsUnderBoth, IsWithoutRoom, Waits, first_at, second_at, side_of, with_side}
 use Rattle.blic_graph.proofs.Closed.{pair_of_under, under_both_child}
-use Rattle.blic_graph.proofs.Keys.{pair-append, stands-append}
+use Rattle.blic_graph.proofs.Keys.{stands-append}
 use Rattle.blic_graph.proofs.Listings.{IsNewPair, grown_of, listing_add, new_pair_of, side_so_far}
+use Rattle.blic_graph.proofs.Requests.{IsRequest}
 use Rattle.blic_graph.proofs.Sides.{SameKeys, at-here, cases_bit, keys-named, named, side-here, side-named, stands-named}
-use Rattle.blic_graph.proofs.Requests.{IsLonger, waiting_before, waiting_later}
 
 found_same : (nodes : List Decision) (a b : ℕ) (x y : Pair) → SameKeys x y → IsFoundPair nodes a b x → IsFoundPair nodes a b y
 found_same nodes a b x y e f = record {
@@ -26,34 +26,20 @@ found_same nodes a b x y e f = record {
   level = e.level ∙ (f.level ∙ ap₂ (level_of_pair nodes) (sym e.first) (sym e.second));
 }
 
+first_same : (nodes : List Decision) (x y : Pair) (bit : Bool) → SameKeys x y → first_at nodes x bit ≡ first_at nodes y bit
+first_same nodes x y bit e = ap₂ (λ r z. cofactor nodes r z bit) (sym e.first) (sym e.level)
+
+second_same : (nodes : List Decision) (x y : Pair) (bit : Bool) → SameKeys x y → second_at nodes x bit ≡ second_at nodes y bit
+second_same nodes x y bit e = ap₂ (λ r z. cofactor nodes r z bit) (sym e.second) (sym e.level)
+
 children_same : (nodes : List Decision) (pairs : List Pair) (W : Type 0) (x y : Pair) (bit : Bool) (side : Side) → SameKeys x y → IsSideSoFar pairs W side (first_at nodes x bit) (second_at nodes x bit) → IsSideSoFar pairs W side (first_at nodes y bit) (second_at nodes y bit)
 children_same nodes pairs W x y bit side e h =
-    let f : first_at nodes x bit ≡ first_at nodes y bit = ap₂ (λ r z. cofactor nodes r z bit) (sym e.first) (sym e.level) in
-    let g : second_at nodes x bit ≡ second_at nodes y bit = ap₂ (λ r z. cofactor nodes r z bit) (sym e.second) (sym e.level) in
-    subst (λ z. IsSideSoFar pairs W side z (second_at nodes y bit)) f (subst (IsSideSoFar pairs W side (first_at nodes x bit)) g h)
-
--- Two requests for one side are one.
-not_both : (a b : Bool) → a ≡ false → b ≡ true → a ≡ b → ⊥
-not_both a b e f g = differ (sym e ∙ (g ∙ f))
-  where
-    differ : false ≡ true → ⊥
-    differ q = cc
-
-apart : (nodes : List Decision) (l : Found) (Open : ℕ → Type 0) → IsListing nodes l Open → (i k : ℕ) → i < length l.queue.requests → k < length l.queue.requests → i ≢ k
-    → (request_at l.queue.requests i).pair ≡ (request_at l.queue.requests k).pair → (request_at l.queue.requests i).bit ≡ (request_at l.queue.requests k).bit → ⊥
-apart nodes l Open w i k h m n e f = elim (cases_lt i k) [
-  | inl u ↦ elim (w.asked_once i k u m) [ inl a ↦ omega arith | inr a ↦ not_both (request_at l.queue.requests i).bit (request_at l.queue.requests k).bit a.1 a.2 f ]
-  | inr u ↦ elim (w.asked_once k i (omega arith) h) [ inl a ↦ omega arith | inr a ↦ not_both (request_at l.queue.requests k).bit (request_at l.queue.requests i).bit a.1 a.2 (sym f) ]
-]
-
-known_children : (nodes : List Decision) (pairs : List Pair) (W : Type 0) (x : Pair) (bit : Bool) (c d : ℕ) → side_of x bit ≡ Side.Done c d → IsSideSoFar pairs W (side_of x bit) (first_at nodes x bit) (second_at nodes x bit) → (c ≡ first_at nodes x bit) × (d ≡ second_at nodes x bit)
-known_children nodes pairs W x bit c d e h = let z = subst (λ (s : Side). IsSideSoFar pairs W s (first_at nodes x bit) (second_at nodes x bit)) e h in (z.0, z.1)
+    subst (λ z. IsSideSoFar pairs W side z (second_at nodes y bit)) (first_same nodes x y bit e) (subst (IsSideSoFar pairs W side (first_at nodes x bit)) (second_same nodes x y bit e) h)
 
 -- The taken request's side names its pair.
-pub going_named : (nodes : List Decision) (l : Found) (k n c d : ℕ) → IsTaken nodes l k → StandsAt l.pairs n c d
-    → let p = (request_at l.queue.requests k).pair in let bit = (request_at l.queue.requests k).bit in side_of (pair_at l.pairs p) bit ≡ Side.Done c d
-    → IsGoing nodes (record l { pairs = named l.pairs p bit (Side.Pair n) })
-going_named nodes l k n c d t st e = record {
+pub going_named : (nodes : List Decision) (l : Found) (r : Request) (n : ℕ) → IsTaken nodes l r → StandsAt l.pairs n r.first r.second
+    → IsGoing nodes (record l { pairs = named l.pairs (pair_of r) (bit_of r) (Side.Pair n) })
+going_named nodes l r n t st = record {
   root = stands-named l.pairs p 0 l.first l.second bit (Side.Pair n) p_in t.root;
   listing = record {
     found = λ j h. found_same nodes l.first l.second (pair_at l.pairs j) (pair_at news j) (keys j) (w.found j (omega (arith, len)));
@@ -65,25 +51,26 @@ going_named nodes l k n c d t st e = record {
       | inl q ↦ elim (cases_bit b bit) [ inl f ↦ side_here j b q f | inr m ↦ side_other j b (omega (arith, len)) (λ _. m) ]
       | inr m ↦ side_other j b (omega (arith, len)) (λ q _. m q)
     ];
-    opened = λ i v. opened i v (w.opened i (inl v));
-    pairs_in = λ i h. let r = w.pairs_in i h in omega (arith, len);
-    asked_once = w.asked_once;
+    opened = λ y q v. opened y q (w.opened y q (inl v));
     start_in = let r = w.start_in in omega (arith, len);
     few = let r = w.few in omega (arith, len);
   };
 }
   where
-    w : IsListing nodes l (λ i. IsWaiting l.queue i ⊎ (i ≡ k))
+    w : IsListing nodes l (IsOr l.queue r)
     w = t.listing
 
+    o : IsOpen nodes l.pairs l.queue.level r
+    o = w.opened l.queue.level r (inr (refl, refl))
+
     p : ℕ
-    p = (request_at l.queue.requests k).pair
+    p = pair_of r
 
     bit : Bool
-    bit = (request_at l.queue.requests k).bit
+    bit = bit_of r
 
     p_in : p < length l.pairs
-    p_in = w.pairs_in k t.in_range
+    p_in = o.pair_in
 
     news : List Pair
     news = named l.pairs p bit (Side.Pair n)
@@ -94,71 +81,65 @@ going_named nodes l k n c d t st e = record {
     keys : (j : ℕ) → SameKeys (pair_at l.pairs j) (pair_at news j)
     keys j = keys-named l.pairs p j bit (Side.Pair n) p_in
 
-    Waits : ℕ → Bool → Type 0
-    Waits j b = (i : ℕ) × IsWaiting l.queue i × IsFor l.queue i j b
+    W : ℕ → Bool → Type 0
+    W j b = Waits (IsWaiting l.queue) j b
 
-    side_here : (j : ℕ) (b : Bool) → j ≡ p → b ≡ bit → IsSideSoFar news (Waits j b) (side_of (pair_at news j) b) (first_at nodes (pair_at news j) b) (second_at nodes (pair_at news j) b)
+    side_here : (j : ℕ) (b : Bool) → j ≡ p → b ≡ bit → IsSideSoFar news (W j b) (side_of (pair_at news j) b) (first_at nodes (pair_at news j) b) (second_at nodes (pair_at news j) b)
     side_here j b q f =
         let x = pair_at l.pairs p in
         let y = pair_at news p in
-        let known = known_children nodes l.pairs ((i : ℕ) × (IsWaiting l.queue i ⊎ (i ≡ k)) × IsFor l.queue i p bit) x bit c d e (w.sides p bit p_in) in
         let at : StandsAt news n (first_at nodes x bit) (second_at nodes x bit) =
-        subst (λ z. StandsAt news n z (second_at nodes x bit)) known.0 (subst (StandsAt news n c) known.1 (stands-named l.pairs p n c d bit (Side.Pair n) p_in st)) in
+        subst (λ z. StandsAt news n z (second_at nodes x bit)) o.first (subst (StandsAt news n r.first) o.second (stands-named l.pairs p n r.first r.second bit (Side.Pair n) p_in st)) in
         let side : side_of y bit ≡ Side.Pair n = ap (λ (z : Pair). side_of z bit) (at-here l.pairs p bit (Side.Pair n) p_in) ∙ side-here x bit (Side.Pair n) in
-        let base : IsSideSoFar news (Waits p bit) (side_of y bit) (first_at nodes y bit) (second_at nodes y bit) =
-        subst (λ (z : Side). IsSideSoFar news (Waits p bit) z (first_at nodes y bit) (second_at nodes y bit)) (sym side) (children_same nodes news (Waits p bit) x y bit (Side.Pair n) (keys p) at) in
-        subst (λ z. IsSideSoFar news (Waits z b) (side_of (pair_at news z) b) (first_at nodes (pair_at news z) b) (second_at nodes (pair_at news z) b)) (sym q)
-        (subst (λ z. IsSideSoFar news (Waits p z) (side_of y z) (first_at nodes y z) (second_at nodes y z)) (sym f) base)
+        let base : IsSideSoFar news (W p bit) (side_of y bit) (first_at nodes y bit) (second_at nodes y bit) =
+        subst (λ (z : Side). IsSideSoFar news (W p bit) z (first_at nodes y bit) (second_at nodes y bit)) (sym side) (children_same nodes news (W p bit) x y bit (Side.Pair n) (keys p) (inl at)) in
+        subst (λ z. IsSideSoFar news (W z b) (side_of (pair_at news z) b) (first_at nodes (pair_at news z) b) (second_at nodes (pair_at news z) b)) (sym q)
+        (subst (λ z. IsSideSoFar news (W p z) (side_of y z) (first_at nodes y z) (second_at nodes y z)) (sym f) base)
 
-    waits : (j : ℕ) (b : Bool) → (j ≡ p → b ≡ bit → ⊥) → (i : ℕ) → IsWaiting l.queue i ⊎ (i ≡ k) → IsFor l.queue i j b → Waits j b
-    waits j b m i (inl v) f = (i, v, f)
-    waits j b m i (inr z) f = absurd (let g = subst (λ z. IsFor l.queue z j b) z f in m (sym g.pair_is) (sym g.bit_is))
+    waits : (j : ℕ) (b : Bool) → (j ≡ p → b ≡ bit → ⊥) → (y : ℕ) (q : Request) → IsOr l.queue r y q → IsFor q j b → W j b
+    waits j b m y q (inl v) f = (y, q, v, f)
+    waits j b m y q (inr z) f = absurd (let g = subst (λ (z : Request). IsFor z j b) z.1 f in m (sym g.pair_is) (sym g.bit_is))
 
-    side_other : (j : ℕ) (b : Bool) → j < length l.pairs → (j ≡ p → b ≡ bit → ⊥) → IsSideSoFar news (Waits j b) (side_of (pair_at news j) b) (first_at nodes (pair_at news j) b) (second_at nodes (pair_at news j) b)
+    side_other : (j : ℕ) (b : Bool) → j < length l.pairs → (j ≡ p → b ≡ bit → ⊥) → IsSideSoFar news (W j b) (side_of (pair_at news j) b) (first_at nodes (pair_at news j) b) (second_at nodes (pair_at news j) b)
     side_other j b h m =
         let x = pair_at l.pairs j in
         let y = pair_at news j in
-        subst (λ (z : Side). IsSideSoFar news (Waits j b) z (first_at nodes y b) (second_at nodes y b)) (sym (side-named l.pairs p j bit b (Side.Pair n) p_in m))
-        (children_same nodes news (Waits j b) x y b (side_of x b) (keys j)
-        (side_so_far l.pairs news ((i : ℕ) × (IsWaiting l.queue i ⊎ (i ≡ k)) × IsFor l.queue i j b) (Waits j b) (λ i r s. stands-named l.pairs p i r s bit (Side.Pair n) p_in)
-        (λ v. waits j b m v.0 v.1 v.2) (side_of x b) (first_at nodes x b) (second_at nodes x b) (w.sides j b h)))
+        subst (λ (z : Side). IsSideSoFar news (W j b) z (first_at nodes y b) (second_at nodes y b)) (sym (side-named l.pairs p j bit b (Side.Pair n) p_in m))
+        (children_same nodes news (W j b) x y b (side_of x b) (keys j)
+        (side_so_far l.pairs news (Waits (IsOr l.queue r) j b) (W j b) (λ i r s. stands-named l.pairs p i r s bit (Side.Pair n) p_in)
+        (λ v. waits j b m v.0 v.1 v.2 v.3) (side_of x b) (first_at nodes x b) (second_at nodes x b) (w.sides j b h)))
 
-    opened : (i : ℕ) → IsWaiting l.queue i → IsOpen nodes l i → IsOpen nodes (record l { pairs = news }) i
-    opened i v o = record {
-      in_range = o.in_range;
+    opened : (y : ℕ) (q : Request) → IsOpen nodes l.pairs y q → IsOpen nodes news y q
+    opened y q o = record {
       pair_in = let r = o.pair_in in omega (arith, len);
-      first = o.first;
-      second = o.second;
-      side = side-named l.pairs p (request_at l.queue.requests i).pair bit (request_at l.queue.requests i).bit (Side.Pair n) p_in
-          (apart nodes l (λ i. IsWaiting l.queue i ⊎ (i ≡ k)) w i k o.in_range t.in_range (λ (z : i ≡ k). t.taken (subst (IsWaiting l.queue) z v))) ∙ o.side;
+      first = o.first ∙ first_same nodes (pair_at l.pairs (pair_of q)) (pair_at news (pair_of q)) (bit_of q) (keys (pair_of q));
+      second = o.second ∙ second_same nodes (pair_at l.pairs (pair_of q)) (pair_at news (pair_of q)) (bit_of q) (keys (pair_of q));
       first_inner = o.first_inner;
       second_inner = o.second_inner;
       level = o.level;
     }
 
 -- The pair of a taken request is new.
-pub taken_add : (nodes : List Decision) → IsCanonical nodes → (l new : Found) (k c d : ℕ) → IsTaken nodes l k → IsUnderBoth nodes l.first l.second c d → IsInner nodes c → IsInner nodes d → l.queue.level ≡ level_of_pair nodes c d → AddsPair nodes l new c d → IsTaken nodes new k
-taken_add nodes cn l new k c d t u i j e a = subst (λ z. IsTaken nodes z k) (sym a.added) (record {
-  in_range = let h = t.in_range in let longer = n.asked.after.longer in omega arith;
-  taken = λ v. t.taken (waiting_before l.queue new.queue k n.asked.after t.in_range v);
-  level = ap (λ (r : Request). r.level) (n.asked.after.kept k t.in_range) ∙ (t.level ∙ sym n.asked.after.level);
-  listing = listing_add nodes l new.queue a.pair (λ i. IsWaiting l.queue i ⊎ (i ≡ k)) (λ i. IsWaiting new.queue i ⊎ (i ≡ k)) t.listing n;
+pub taken_add : (nodes : List Decision) (l new : Found) (r : Request) → IsTaken nodes l r → IsUnderBoth nodes l.first l.second r.first r.second → IsInner nodes r.first → IsInner nodes r.second
+    → l.queue.level ≡ level_of_pair nodes r.first r.second → AddsPair nodes l new r.first r.second → IsTaken nodes new r
+taken_add nodes l new r t u i j e a = subst (λ z. IsTaken nodes z r) (sym a.added) (record {
+  listing = listing_add nodes l new.queue a.pair (IsOr l.queue r) (IsOr new.queue r) t.listing n;
   root = stands-append l.pairs a.pair 0 l.first l.second t.root;
 })
   where
-    longer : IsLonger l.queue new.queue
-    longer = (grown_of nodes l new c d a).after
+    level : new.queue.level ≡ l.queue.level
+    level = (grown_of nodes l new r.first r.second a).level
 
-    opens : (i : ℕ) → IsWaiting l.queue i ⊎ (i ≡ k) → IsWaiting new.queue i ⊎ (i ≡ k)
-    opens i (inl v) = inl (waiting_later l.queue new.queue i longer v)
-    opens i (inr z) = inr z
+    opens : (y : ℕ) (q : Request) → IsOr l.queue r y q → IsOr new.queue r y q
+    opens y q (inl v) = inl ((grown_of nodes l new r.first r.second a).kept y q v)
+    opens y q (inr z) = inr (z.0 ∙ sym level, z.1)
 
-    only : (i : ℕ) → IsWaiting new.queue i ⊎ (i ≡ k) → (IsWaiting l.queue i ⊎ (i ≡ k)) ⊎ ((length l.queue.requests ≤ i) × (i < length new.queue.requests))
-    only i (inl v) = elim (cases_lt i (length l.queue.requests)) [ inl m ↦ inl (inl (waiting_before l.queue new.queue i longer m v)) | inr m ↦ inr (m, v.in_range) ]
-    only i (inr z) = inl (inr z)
+    only : (y : ℕ) (q : Request) → IsOr new.queue r y q → IsOr l.queue r y q ⊎ ((bit : Bool) × IsRequest nodes a.pair (length l.pairs) y q bit)
+    only y q (inl v) = elim ((grown_of nodes l new r.first r.second a).only y q v) [ inl m ↦ inl (inl m) | inr m ↦ inr m ]
+    only y q (inr z) = inl (inr (z.0 ∙ level, z.1))
 
-    n : IsNewPair nodes l new.queue a.pair (λ i. IsWaiting l.queue i ⊎ (i ≡ k)) (λ i. IsWaiting new.queue i ⊎ (i ≡ k))
-    n = new_pair_of nodes cn l new c d (λ i. IsWaiting l.queue i ⊎ (i ≡ k)) (λ i. IsWaiting new.queue i ⊎ (i ≡ k)) u a i j e opens (λ i h v. inl v) only
+    n : IsNewPair nodes l new.queue a.pair (IsOr l.queue r) (IsOr new.queue r)
+    n = new_pair_of nodes l new r.first r.second (IsOr l.queue r) (IsOr new.queue r) u a i j e opens (λ y q v. inl v) only
 
 -- What is known of the functions of a taken request.
 pub record IsPending (nodes : List Decision) (l : Found) (c d : ℕ) : Type 0 where
@@ -167,38 +148,26 @@ pub record IsPending (nodes : List Decision) (l : Found) (c d : ℕ) : Type 0 wh
   pub second_inner : IsInner nodes d
   pub level : l.queue.level ≡ level_of_pair nodes c d
 
-same_first : (a b c d : ℕ) → ◌≡◌ {A = Side} (Side.Done a b) (Side.Done c d) → a ≡ c
-same_first a b c d e = cc
-
-same_second : (a b c d : ℕ) → ◌≡◌ {A = Side} (Side.Done a b) (Side.Done c d) → b ≡ d
-same_second a b c d e = cc
-
-pub pending : (nodes : List Decision) → IsCanonical nodes → (l : Found) (k c d : ℕ) → IsTaken nodes l k → side_of (pair_at l.pairs (request_at l.queue.requests k).pair) (request_at l.queue.requests k).bit ≡ Side.Done c d → IsPending nodes l c d
-pending nodes cn l k c d t e =
+pub pending : (nodes : List Decision) → IsCanonical nodes → (l : Found) (r : Request) → IsTaken nodes l r → IsPending nodes l r.first r.second
+pending nodes cn l r t =
     let w = t.listing in
-    let o = w.opened k (inr refl) in
-    let p = (request_at l.queue.requests k).pair in
-    let bit = (request_at l.queue.requests k).bit in
-    let x = pair_at l.pairs p in
-    let p_in = o.pair_in in
-    let f = w.found p p_in in
-    let known = known_children nodes l.pairs ((i : ℕ) × (IsWaiting l.queue i ⊎ (i ≡ k)) × IsFor l.queue i p bit) x bit c d e (w.sides p bit p_in) in
-    let both : IsUnderBoth nodes l.first l.second (first_at nodes x bit) (second_at nodes x bit) = under_both_child nodes cn l.first l.second x.first x.second x.level bit f.of f.first_inner f.second_inner f.level in
-    let under : IsUnderBoth nodes l.first l.second c d = subst (λ z. IsUnderBoth nodes l.first l.second z d) (sym known.0) (subst (IsUnderBoth nodes l.first l.second (first_at nodes x bit)) (sym known.1) both) in
-    let g : o.first ≡ c = same_first o.first o.second c d (sym o.side ∙ e) in
-    let h : o.second ≡ d = same_second o.first o.second c d (sym o.side ∙ e) in
+    let o = w.opened l.queue.level r (inr (refl, refl)) in
+    let x = pair_at l.pairs (pair_of r) in
+    let f = w.found (pair_of r) o.pair_in in
+    let both : IsUnderBoth nodes l.first l.second (first_at nodes x (bit_of r)) (second_at nodes x (bit_of r)) = under_both_child nodes cn l.first l.second x.first x.second x.level (bit_of r) f.of f.first_inner f.second_inner f.level in
+    let under : IsUnderBoth nodes l.first l.second r.first r.second = subst (λ z. IsUnderBoth nodes l.first l.second z r.second) (sym o.first) (subst (IsUnderBoth nodes l.first l.second (first_at nodes x (bit_of r))) (sym o.second) both) in
     record {
       under = under;
-      first_inner = record { held = under.first.held; inner = subst (λ z. 2 ≤ z) g o.first_inner };
-      second_inner = record { held = under.second.held; inner = subst (λ z. 2 ≤ z) h o.second_inner };
-      level = sym t.level ∙ (o.level ∙ ap₂ (level_of_pair nodes) g h);
+      first_inner = record { held = under.first.held; inner = o.first_inner };
+      second_inner = record { held = under.second.held; inner = o.second_inner };
+      level = o.level;
     }
 
 abbrev both : Pair → ℕ × ℕ
 both x = (x.first, x.second)
 
 -- Where there is no room for a new pair there are too many.
-pub passes_most : (nodes : List Decision) (l : Found) (Open : ℕ → Type 0) (r s : ℕ) → IsListing nodes l Open → IsPending nodes l r s → IsWithoutRoom l r s → PassesMost nodes l.first l.second l.most
+pub passes_most : (nodes : List Decision) (l : Found) (Open : ℕ → Request → Type 0) (r s : ℕ) → IsListing nodes l Open → IsPending nodes l r s → IsWithoutRoom l r s → PassesMost nodes l.first l.second l.most
 passes_most nodes l Open r s w b f = record {
   some = (r, s) ∷ map both l.pairs;
   more = let h = f.full in omega (arith, len);
@@ -234,27 +203,13 @@ passes_most nodes l Open r s w b f = record {
         let q = sym (at i (omega (arith, len))) ∙ (e ∙ at j (omega (arith, len))) in
         w.once i j (omega arith) (omega (arith, len)) (ap (λ z. z.0) q) (ap (λ z. z.1) q)
 
-answered_at : (nodes : List Decision) (mid new : Found) (k n c d : ℕ) (r : Request) → IsTaken nodes mid k → StandsAt mid.pairs n c d → request_at mid.queue.requests k ≡ r → side_of (pair_at mid.pairs r.pair) r.bit ≡ Side.Done c d
-    → new ≡ record mid { pairs = named mid.pairs r.pair r.bit (Side.Pair n) } → IsGoing nodes new
-answered_at nodes mid new k n c d r t st q e u =
-    subst (IsGoing nodes) (sym u)
-    (subst (λ (z : Request). IsGoing nodes (record mid { pairs = named mid.pairs z.pair z.bit (Side.Pair n) })) q
-    (going_named nodes mid k n c d t st (subst (λ (z : Request). side_of (pair_at mid.pairs z.pair) z.bit ≡ Side.Done c d) (sym q) e)))
-
 -- What `answer` leaves.
-pub answered : (nodes : List Decision) → IsCanonical nodes → (l mid new : Found) (k n c d : ℕ) → IsTaken nodes l k → (mid ≡ l) ⊎ AddsPair nodes l mid c d → StandsAt mid.pairs n c d
-    → side_of (pair_at l.pairs (request_at l.queue.requests k).pair) (request_at l.queue.requests k).bit ≡ Side.Done c d
-    → new ≡ record mid { pairs = named mid.pairs (request_at l.queue.requests k).pair (request_at l.queue.requests k).bit (Side.Pair n) } → IsGoing nodes new
-answered nodes cn l mid new k n c d t (inl q) st e u =
-    answered_at nodes mid new k n c d (request_at l.queue.requests k) (subst (λ z. IsTaken nodes z k) (sym q) t) st (ap (λ (z : Found). request_at z.queue.requests k) q)
-    (ap (λ (z : Found). side_of (pair_at z.pairs (request_at l.queue.requests k).pair) (request_at l.queue.requests k).bit) q ∙ e) u
-answered nodes cn l mid new k n c d t (inr a) st e u =
-    let b = pending nodes cn l k c d t e in
-    let p_in = t.listing.pairs_in k t.in_range in
-    let grown = grown_of nodes l mid c d a in
-    answered_at nodes mid new k n c d (request_at l.queue.requests k) (taken_add nodes cn l mid k c d t b.under b.first_inner b.second_inner b.level a) st (grown.after.kept k t.in_range)
-    (ap (λ (z : Found). side_of (pair_at z.pairs (request_at l.queue.requests k).pair) (request_at l.queue.requests k).bit) a.added
-    ∙ (ap (λ (z : Pair). side_of z (request_at l.queue.requests k).bit) (pair-append l.pairs a.pair (request_at l.queue.requests k).pair p_in) ∙ e)) u
+pub answered : (nodes : List Decision) → IsCanonical nodes → (l mid new : Found) (r : Request) (n : ℕ) → IsTaken nodes l r → (mid ≡ l) ⊎ AddsPair nodes l mid r.first r.second → StandsAt mid.pairs n r.first r.second
+    → new ≡ record mid { pairs = named mid.pairs (pair_of r) (bit_of r) (Side.Pair n) } → IsGoing nodes new
+answered nodes cn l mid new r n t (inl q) st u = subst (IsGoing nodes) (sym u) (going_named nodes mid r n (subst (λ z. IsTaken nodes z r) (sym q) t) st)
+answered nodes cn l mid new r n t (inr a) st u =
+    let b = pending nodes cn l r t in
+    subst (IsGoing nodes) (sym u) (going_named nodes mid r n (taken_add nodes l mid r t b.under b.first_inner b.second_inner b.level a) st)
 
 pub no_shorter : (nodes : List Decision) (l mid : Found) (c d : ℕ) → (mid ≡ l) ⊎ AddsPair nodes l mid c d → length l.pairs ≤ length mid.pairs
 no_shorter nodes l mid c d (inl q) = omega (arith, ap (λ (z : Found). length z.pairs) q)

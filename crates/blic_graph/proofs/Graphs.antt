@@ -9,54 +9,72 @@ use Rattle.blic_store.proofs.Canonical.{same_ref}
 use Rattle.blic_store.proofs.Under.{constant_stays}
 use Rattle.blic_graph.specs.declared.pair.Pair.{Pair}
 use Rattle.blic_graph.specs.declared.pair.Side.{Side}
+use Rattle.blic_graph.specs.declared.waiting.Request.{Request}
 use Rattle.blic_graph.specs.Pairs.{IsGraph, IsInner, IsListed, IsPairOf, IsSide, PassesMost, StandsAt, level_of_pair, pair_at}
-use Rattle.blic_graph.specs.Queue.{IsWaiting}
-use Rattle.blic_graph.specs.Listing.{AddsPair, Found, IsFor, IsGoing, IsListing, IsSideSoFar, IsWithoutRoom, first_at, second_at, side_of}
+use Rattle.blic_graph.specs.Queue.{IsWaiting, Queue}
+use Rattle.blic_graph.specs.Listing.{AddsPair, Found, IsBegun, IsGoing, IsListing, IsSideSoFar, Waits, first_at, second_at, side_of}
 use Rattle.blic_graph.proofs.Answering.{IsPending, passes_most}
 use Rattle.blic_graph.proofs.Closed.{IsClosed, closed_has_all, pair_of_under, under_both_none}
-use Rattle.blic_graph.proofs.Listings.{listing_add, new_pair_of}
+use Rattle.blic_graph.proofs.Listings.{grown_of, listing_add, new_pair_of}
 
-abbrev pub empty : ℕ → ℕ → ℕ → ℕ → Found
-empty a b most level = record { first = a; second = b; most = most; pairs = []; start = 0; queue = record { requests = []; level = level; left = 0 } }
+abbrev empty : ℕ → ℕ → ℕ → Queue → Found
+empty a b most queue = record { first = a; second = b; most = most; pairs = []; start = 0; queue = queue }
 
-listing_none : (nodes : List Decision) (a b most level : ℕ) → IsListing nodes (empty a b most level) (λ i. ⊥)
-listing_none nodes a b most level = record {
+NoneOpen : ℕ → Request → Type 0
+NoneOpen y r = ⊥
+
+listing_none : (nodes : List Decision) (a b most : ℕ) (queue : Queue) → IsListing nodes (empty a b most queue) NoneOpen
+unfolding NoneOpen
+listing_none nodes a b most queue = record {
   found = λ k h. absurd (omega arith);
   rising = λ j k m h. absurd (omega arith);
   no_later = λ k h. absurd (omega arith);
   before_start = λ k m h. absurd (omega arith);
   once = λ j k m h. absurd (omega arith);
   sides = λ k bit h. absurd (omega arith);
-  opened = λ i v. absurd v;
-  pairs_in = λ i h. absurd (omega arith);
-  asked_once = λ i j m h. absurd (omega arith);
+  opened = λ y r v. absurd v;
   start_in = omega arith;
   few = omega arith;
 }
 
-pub pending_root : (nodes : List Decision) (a b most level : ℕ) → IsInner nodes a → IsInner nodes b → level ≡ level_of_pair nodes a b → IsPending nodes (empty a b most level) a b
-pending_root nodes a b most level i j e = record { under = under_both_none nodes a b i.held j.held; first_inner = i; second_inner = j; level = e }
+begun_is : (l : Found) (a b most level : ℕ) → IsBegun l a b most level → l ≡ empty a b most l.queue
+begun_is l a b most level e = λ i. record { first = e.first_is i; second = e.second_is i; most = e.most_is i; pairs = e.pairs i; start = e.start i; queue = l.queue }
 
-root_at : (nodes : List Decision) → IsCanonical nodes → (a b most level : ℕ) (new : Found) → IsInner nodes a → IsInner nodes b → level ≡ level_of_pair nodes a b → AddsPair nodes (empty a b most level) new a b → IsGoing nodes new
-root_at nodes c a b most level new i j e x = subst (IsGoing nodes) (sym x.added) (record {
-  listing = listing_add nodes (empty a b most level) new.queue x.pair (λ k. ⊥) (IsWaiting new.queue) (listing_none nodes a b most level)
-      (new_pair_of nodes c (empty a b most level) new a b (λ k. ⊥) (IsWaiting new.queue) (under_both_none nodes a b i.held j.held) x i j e
-      (λ k v. absurd v) (λ k h v. v) (λ k v. inr (omega arith, v.in_range)));
+pending_root : (nodes : List Decision) (a b most : ℕ) (queue : Queue) → IsInner nodes a → IsInner nodes b → queue.level ≡ level_of_pair nodes a b → IsPending nodes (empty a b most queue) a b
+pending_root nodes a b most queue i j e = record { under = under_both_none nodes a b i.held j.held; first_inner = i; second_inner = j; level = e }
+
+root_at : (nodes : List Decision) (a b most : ℕ) (queue : Queue) (new : Found) → IsInner nodes a → IsInner nodes b → queue.level ≡ level_of_pair nodes a b → ((y : ℕ) (r : Request) → IsWaiting queue y r → ⊥) → AddsPair nodes (empty a b most queue) new a b → IsGoing nodes new
+unfolding NoneOpen
+root_at nodes a b most queue new i j e none x = subst (IsGoing nodes) (sym x.added) (record {
+  listing = listing_add nodes (empty a b most queue) new.queue x.pair NoneOpen (IsWaiting new.queue) (listing_none nodes a b most queue)
+      (new_pair_of nodes (empty a b most queue) new a b NoneOpen (IsWaiting new.queue) (under_both_none nodes a b i.held j.held) x i j e
+      (λ y r v. absurd v) (λ y r v. v)
+      (λ y r v. elim ((grown_of nodes (empty a b most queue) new a b x).only y r v) [ inl w ↦ absurd (none y r w) | inr w ↦ inr w ]));
   root = record { in_range = omega arith; first = x.first; second = x.second };
 })
 
 -- The two functions are the first pair.
-pub going_root : (nodes : List Decision) → IsCanonical nodes → (a b most level : ℕ) (l new : Found) → l ≡ empty a b most level → IsInner nodes a → IsInner nodes b → level ≡ level_of_pair nodes a b → AddsPair nodes l new a b → IsGoing nodes new
-going_root nodes c a b most level l new q i j e x = root_at nodes c a b most level new i j e (subst (λ z. AddsPair nodes z new a b) q x)
+pub going_root : (nodes : List Decision) (a b most level : ℕ) (l new : Found) → IsBegun l a b most level → IsInner nodes a → IsInner nodes b → level ≡ level_of_pair nodes a b → AddsPair nodes l new a b → IsGoing nodes new
+going_root nodes a b most level l new q i j e x =
+    root_at nodes a b most l.queue new i j (q.level_is ∙ e) q.none (subst (λ z. AddsPair nodes z new a b) (begun_is l a b most level q) x)
 
-pub full_root : (nodes : List Decision) (a b most level : ℕ) (l : Found) → l ≡ empty a b most level → IsInner nodes a → IsInner nodes b → level ≡ level_of_pair nodes a b → IsWithoutRoom l a b → PassesMost nodes a b most
+pub full_root : (nodes : List Decision) (a b most level : ℕ) (l : Found) → IsBegun l a b most level → IsInner nodes a → IsInner nodes b → level ≡ level_of_pair nodes a b → l.most ≤ length l.pairs → PassesMost nodes a b most
 full_root nodes a b most level l q i j e f =
-    passes_most nodes (empty a b most level) (λ k. ⊥) a b (listing_none nodes a b most level) (pending_root nodes a b most level i j e) (subst (λ z. IsWithoutRoom z a b) q f)
+    passes_most nodes (empty a b most l.queue) NoneOpen a b (listing_none nodes a b most l.queue) (pending_root nodes a b most l.queue i j (q.level_is ∙ e)) (record {
+      missing = λ k m x. absurd (let r = x.in_range in omega arith);
+      full = omega (arith, ap length q.pairs, q.most_is);
+    })
+
+pub missing_root : (a b most level : ℕ) (l : Found) → IsBegun l a b most level → (k : ℕ) → l.start ≤ k → StandsAt l.pairs k a b → ⊥
+missing_root a b most level l q k m x = let r = x.in_range in omega (arith, ap length q.pairs)
+
+pub operands_root : (nodes : List Decision) (a b most level : ℕ) (l new : Found) → IsBegun l a b most level → AddsPair nodes l new a b → (new.first ≡ a) × (new.second ≡ b) × (new.most ≡ most)
+operands_root nodes a b most level l new q x = (ap (λ (z : Found). z.first) x.added ∙ q.first_is, ap (λ (z : Found). z.second) x.added ∙ q.second_is, ap (λ (z : Found). z.most) x.added ∙ q.most_is)
 
 -- A side of which nothing waits.
 settled_side : (pairs : List Pair) (W : Type 0) → (W → ⊥) → (side : Side) (r s : ℕ) → IsSideSoFar pairs W side r s → IsSide pairs side r s
-settled_side pairs W none (Side.Pair n) r s h = h
-settled_side pairs W none (Side.Done c d) r s h = (h.0, h.1, elim h.2 [ inl m ↦ m | inr v ↦ absurd (none v) ])
+settled_side pairs W none side r s (inl h) = h
+settled_side pairs W none side r s (inr v) = absurd (none v)
 
 abbrev Has : List Pair → ℕ → ℕ → Type 0
 Has pairs r s = (k : ℕ) × StandsAt pairs k r s
@@ -68,7 +86,7 @@ side_listed pairs (Side.Done c d) r s h i m = absurd (let u = h.0 in let v = h.1
 ChildListed : List Decision → List Pair → Bool → ℕ → ℕ → ℕ → Type 0
 ChildListed nodes pairs v r s x = 2 ≤ cofactor nodes r x v → 2 ≤ cofactor nodes s x v → Has pairs (cofactor nodes r x v) (cofactor nodes s x v)
 
-pub graph_at_end : (nodes : List Decision) → IsCanonical nodes → (l : Found) → IsRef nodes l.first → IsRef nodes l.second → IsGoing nodes l → ((i : ℕ) → IsWaiting l.queue i → ⊥) → IsGraph nodes l.first l.second l.pairs
+pub graph_at_end : (nodes : List Decision) → IsCanonical nodes → (l : Found) → IsRef nodes l.first → IsRef nodes l.second → IsGoing nodes l → ((y : ℕ) (r : Request) → IsWaiting l.queue y r → ⊥) → IsGraph nodes l.first l.second l.pairs
 unfolding ChildListed
 graph_at_end nodes c l i j g none = record {
   listed = listed;
@@ -83,7 +101,7 @@ graph_at_end nodes c l i j g none = record {
     w = g.listing
 
     side : (k : ℕ) (bit : Bool) → k < length l.pairs → IsSide l.pairs (side_of (pair_at l.pairs k) bit) (first_at nodes (pair_at l.pairs k) bit) (second_at nodes (pair_at l.pairs k) bit)
-    side k bit h = settled_side l.pairs ((i : ℕ) × IsWaiting l.queue i × IsFor l.queue i k bit) (λ v. none v.0 v.1) (side_of (pair_at l.pairs k) bit) (first_at nodes (pair_at l.pairs k) bit) (second_at nodes (pair_at l.pairs k) bit) (w.sides k bit h)
+    side k bit h = settled_side l.pairs (Waits (IsWaiting l.queue) k bit) (λ v. none v.0 v.1 v.2) (side_of (pair_at l.pairs k) bit) (first_at nodes (pair_at l.pairs k) bit) (second_at nodes (pair_at l.pairs k) bit) (w.sides k bit h)
 
     listed : (k : ℕ) → k < length l.pairs → IsListed nodes l.first l.second l.pairs (pair_at l.pairs k)
     listed k h =
@@ -110,7 +128,7 @@ graph_at_end nodes c l i j g none = record {
     }
 
 -- The same, of the functions that the listing began with.
-pub graph_of : (nodes : List Decision) → IsCanonical nodes → (a b : ℕ) (l : Found) → IsRef nodes a → IsRef nodes b → l.first ≡ a → l.second ≡ b → IsGoing nodes l → ((i : ℕ) → IsWaiting l.queue i → ⊥) → IsGraph nodes a b l.pairs
+pub graph_of : (nodes : List Decision) → IsCanonical nodes → (a b : ℕ) (l : Found) → IsRef nodes a → IsRef nodes b → l.first ≡ a → l.second ≡ b → IsGoing nodes l → ((y : ℕ) (r : Request) → IsWaiting l.queue y r → ⊥) → IsGraph nodes a b l.pairs
 graph_of nodes c a b l i j f s g none =
     subst (λ z. IsGraph nodes z b l.pairs) f (subst (λ z. IsGraph nodes l.first z l.pairs) s (graph_at_end nodes c l (subst (IsRef nodes) (sym f) i) (subst (IsRef nodes) (sym s) j) g none))
 
@@ -137,9 +155,3 @@ graph_none nodes c a b h i k = record {
     never : (a < 2) ⊎ (b < 2) → (r s : ℕ) → IsPairOf nodes a b r s → ⊥
     never (inl x) r s p = constant_part nodes c a r p.bits h x p.first_inner.held p.first_inner.inner p.first
     never (inr x) r s p = constant_part nodes c b s p.bits i x p.second_inner.held p.second_inner.inner p.second
-
-pub no_room_at_all : (a b most level : ℕ) (l : Found) → l ≡ empty a b most level → l.most ≤ length l.pairs → IsWithoutRoom l a b
-no_room_at_all a b most level l q f = record { missing = λ k m x. absurd (let i = x.in_range in omega (arith, ap (λ (z : Found). length z.pairs) q)); full = f }
-
-pub operands_root : (nodes : List Decision) (a b most level : ℕ) (l new : Found) → l ≡ empty a b most level → AddsPair nodes l new a b → (new.first ≡ a) × (new.second ≡ b) × (new.most ≡ most)
-operands_root nodes a b most level l new q x = (ap (λ (z : Found). z.first) x.added ∙ ap (λ (z : Found). z.first) q, ap (λ (z : Found). z.second) x.added ∙ ap (λ (z : Found). z.second) q, ap (λ (z : Found). z.most) x.added ∙ ap (λ (z : Found). z.most) q)

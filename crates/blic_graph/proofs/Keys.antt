@@ -1,12 +1,12 @@
 -- Lists of pairs that are appended to, and whose sides change.
-use Rattle.std.proofs.Common.{arith, ℕ, ◌<◌, ◌≡◌, sym, ◌∙◌, ap, List, [], ◌∷◌, ◌++◌, length, map, drop}
+use Rattle.std.proofs.Common.{arith, ℕ, ◌<◌, ◌≡◌, refl, sym, ◌∙◌, ap, List, [], ◌∷◌, ◌++◌, length, map, drop, Bool, true, false}
 use Rattle.std.specs.Prelude.{set}
 use Rattle.std.proofs.lemmas.List.{drop-map, get_or_append_left, length-set, length_push}
 use Rattle.std.proofs.Math.Seq.{get_or-append_seam, map-set_same}
 use Rattle.blic_graph.specs.declared.pair.Pair.{Pair}
 use Rattle.blic_graph.specs.declared.pair.Side.{Side}
 use Rattle.blic_graph.specs.Pairs.{StandsAt, pair_at}
-use Rattle.blic_graph.specs.Listing.{IsEntered, hash_of_pair}
+use Rattle.blic_graph.specs.Listing.{IsEntered, hash_of_pair, with_side}
 
 abbrev none : Pair
 none = record { level = 0; first = 0; second = 0; low = Side.Done 0 0; high = Side.Done 0 0 }
@@ -38,3 +38,7 @@ entered-set pairs start hashes k y t e =
       start_in = omega arith;
       few = omega arith;
     }
+
+pub hash-with : (x : Pair) (bit : Bool) (side : Side) → hash_of_pair (with_side x bit side) ≡ hash_of_pair x
+hash-with x false side = refl
+hash-with x true side = refl

@@ -6,6 +6,7 @@ pub mod Graphs
 pub mod Kept
 pub mod Keys
 pub mod Listings
+pub mod Packing
 pub mod Queues
 pub mod Requests
 pub mod Room

@@ -1,266 +1,355 @@
 -- Queues: a request more, the next level, and a request that is taken.
-use Rattle.std.proofs.Common.{arith, rules, ℕ, ◌+◌, ◌-◌, ◌^◌, ◌<◌, ◌≤◌, ◌≡◌, ◌≢◌, refl, sym, ◌∙◌, ap, subst, inl, inr, List, [], ◌∷◌, ◌++◌, length, false}
-use Rattle.std.specs.Prelude.{Option, Some, None, IsSome}
-use Rattle.std.specs.BTreeMap.{BTreeMap, IsLowerBound, IsUnchanged, Updates, get, is_at}
-use Rattle.std.specs.Map.{lookup}
-use Rattle.std.specs.Ordering.{nat_cmp}
-use Rattle.std.proofs.lemmas.Bool.{cases_eq, cases_lt}
-use Rattle.std.proofs.lemmas.Bool.Decides.{nat_tests}
-use Rattle.std.proofs.lemmas.Map.Keys.{le_from_not_gt}
-use Rattle.std.proofs.lemmas.List.{get_or_append_left, length_push}
+use Rattle.std.proofs.Common.{arith, ℕ, zero, suc, ◌+◌, ◌-◌, ◌^◌, ◌<◌, ◌≤◌, ◌≡◌, ◌≢◌, refl, sym, ◌∙◌, ap, subst, ◌⊎◌, inl, inr, List, [], ◌∷◌, ◌++◌, length, get_or, true, false, cond}
+use Rattle.std.specs.Prelude.{set, ◌==◌}
+use Rattle.std.specs.List.{All, Contains}
+use Rattle.std.specs.List.Sorted.{IsPermutation}
+use Rattle.std.specs.BinaryHeap.{IsHeap, IsUpperBound}
+use Rattle.std.specs.Ordering.{is_lt, nat_cmp}
+use Rattle.std.specs.declared.cmp.Ordering.TheVariants.{Less, Equal, Greater}
+use Rattle.std.proofs.lemmas.Bool.{cases_eq, cases_lt, lt-ltb}
+use Rattle.std.proofs.lemmas.List.{get_or_append_left, get_or_past, get_or-set_other, length-set, length_push}
+use Rattle.std.proofs.lemmas.List.Elements.{All-cons, All-tail}
+use Rattle.std.proofs.lemmas.List.Sorted.{All-permutation, Contains-permutation}
+use Rattle.std.proofs.lemmas.Grind.{get_or-set_at}
 use Rattle.std.proofs.Math.Seq.{get_or-append_seam}
 use Rattle.blic_graph.specs.declared.waiting.Request.{Request}
-use Rattle.blic_graph.specs.Queue.{IsQueue, IsWaiting, Queue, Takes, link_to, request_at, turns_left}
+use Rattle.blic_graph.specs.Queue.{Asks, IsIn, IsNoted, IsQueue, IsWaiting, Queue, Takes, WaitsAlike, bucket_at, request_at, turns_left}
 
 abbrev none : Request
-none = record { pair = 0; bit = false; level = 0; older = 0 }
+none = record { first = 0; second = 0; place = 0 }
 
-pub request-append : (requests : List Request) (r : Request) (k : ℕ) → k < length requests → request_at (requests ++ r ∷ []) k ≡ request_at requests k
-request-append requests r k h = get_or_append_left requests (r ∷ []) none k h
+abbrev Buckets : Type 0
+Buckets = List (List Request)
 
-pub request-last : (requests : List Request) (r : Request) (k : ℕ) → k ≡ length requests → request_at (requests ++ r ∷ []) k ≡ r
-request-last requests r k h = ap (request_at (requests ++ r ∷ [])) h ∙ get_or-append_seam requests r [] none
+-- Buckets of which one is changed.
+bucket-here : (later : Buckets) (x : ℕ) (b : List Request) → x < length later → bucket_at (set later x b) x ≡ b
+bucket-here later x b h = get_or-set_at later x x b [] refl h
 
-not_at : (x q : ℕ) → q ≢ x → is_at (nat_cmp x) q ≡ false
-not_at x q n = grind (arith, nat_tests)
+bucket-other : (later : Buckets) (x y : ℕ) (b : List Request) → y ≢ x → bucket_at (set later x b) y ≡ bucket_at later y
+bucket-other later x y b n = get_or-set_other later x y b [] n
 
--- A map with one key changed.
-updated-here : (m n : BTreeMap ℕ ℕ) (x : ℕ) (w : Option ℕ) → Updates nat_cmp m n x w → get nat_cmp n x ≡ w
-updated-here m n x w u = u.1
+in_append : (b : List Request) (r q : Request) → IsIn b q → IsIn (b ++ r ∷ []) q
+in_append b r q i =
+    let h = i.in_range in
+    let len = length_push b r in
+    record { place = i.place; in_range = omega arith; is = get_or_append_left b (r ∷ []) none i.place h ∙ i.is }
 
-updated-other : (m n : BTreeMap ℕ ℕ) (x q : ℕ) (w : Option ℕ) → Updates nat_cmp m n x w → q ≢ x → get nat_cmp n q ≡ get nat_cmp m q
-updated-other m n x q w u ne = u.2 q (not_at x q ne)
+in_last : (b : List Request) (r : Request) → IsIn (b ++ r ∷ []) r
+in_last b r = let len = length_push b r in record { place = length b; in_range = omega arith; is = get_or-append_seam b r [] none }
 
-same_some : (a b : ℕ) → ◌≡◌ {A = Option ℕ} (Some a) (Some b) → a ≡ b
-same_some a b e = cc
-
-some_none : (a : ℕ) (o : Option ℕ) → o ≡ None → o ≡ Some a → ⊥
-some_none a o e f = differ (sym e ∙ f)
-  where
-    differ : ◌≡◌ {A = Option ℕ} None (Some a) → ⊥
-    differ q = cc
-
-link_older : (requests : List Request) (newest : BTreeMap ℕ ℕ) (level left x : ℕ) (o : Option ℕ) → o ≡ get nat_cmp newest x → IsQueue newest requests level left → link_to o ≤ length requests
-link_older requests newest level left x None e w = omega arith
-link_older requests newest level left x (Some h) e w = let i = w.newest_is x h (sym e) in omega (arith, i.0)
-
-link_level : (requests : List Request) (newest : BTreeMap ℕ ℕ) (level left x : ℕ) (o : Option ℕ) → o ≡ get nat_cmp newest x → IsQueue newest requests level left → 0 < link_to o → (request_at requests (link_to o - 1)).level ≡ x
-link_level requests newest level left x None e w p = absurd (omega arith)
-link_level requests newest level left x (Some h) e w p = ap (λ z. (request_at requests z).level) (let z : h + 1 - 1 ≡ h = omega arith in z) ∙ (w.newest_is x h (sym e)).1
-
--- A request more, for a level that is still to come.
-pub queue-ask : (newest more : BTreeMap ℕ ℕ) (requests longer : List Request) (level left : ℕ) (r : Request) → IsQueue newest requests level left → level < r.level → r.level < 2 ^ 32 → r.older ≡ link_to (get nat_cmp newest r.level)
-    → Updates nat_cmp newest more r.level (Some (length requests)) → longer ≡ requests ++ r ∷ [] → length requests + 1 < 2 ^ 32 → IsQueue more longer level left
-queue-ask newest more requests longer level left r w later range link u q few = subst (λ z. IsQueue more z level left) (sym q) (record {
-  newest_of = λ k h l. elim (cases_lt k n) [
-    | inl m ↦ newest_old k m (subst (λ (z : Request). level < z.level) (old k m) l)
-    | inr m ↦ (n, ap (λ (z : Request). get nat_cmp more z.level) (last k (omega (arith, len))) ∙ updated-here newest more r.level (Some n) u, omega (arith, len))
-  ];
-  newest_is = λ x h e. elim (cases_eq x r.level) [
-    | inl s ↦ (let z = same_some n h (sym (updated-here newest more r.level (Some n) u) ∙ (ap (get nat_cmp more) (sym s) ∙ e)) in
-        (omega (arith, len), ap (λ (z : Request). z.level) (last h (sym z)) ∙ sym s, omega arith))
-    | inr ne ↦ (let i = w.newest_is x h (sym (updated-other newest more r.level x (Some n) u ne) ∙ e) in
-        (omega (arith, len, i.0), ap (λ (z : Request). z.level) (old h i.0) ∙ i.1, i.2))
-  ];
-  older_of = λ j k d h e. elim (cases_lt k n) [
-    | inl m ↦ subst (λ (z : Request). j < z.older) (sym (old k m)) (w.older_of j k d m (sym (level_old j (omega arith)) ∙ (e ∙ level_old k m)))
-    | inr m ↦ (let z : k ≡ n = omega (arith, len) in
-        let f : (request_at requests j).level ≡ r.level = sym (level_old j (omega (arith, len))) ∙ (e ∙ ap (λ (z : Request). z.level) (last k z)) in
-        let i = w.newest_of j (omega arith) (omega arith) in
-        let g : link_to (get nat_cmp newest r.level) ≡ i.0 + 1 = ap link_to (ap (get nat_cmp newest) (sym f) ∙ i.1) in
-        let o = ap (λ (z : Request). z.older) (last k z) in
-        omega (arith, i.2))
-  ];
-  older_is = λ k h. elim (cases_lt k n) [
-    | inl m ↦ subst (λ (z : Request). z.older ≤ k) (sym (old k m)) (w.older_is k m)
-    | inr m ↦ (let o = ap (λ (z : Request). z.older) (last k (omega (arith, len))) in
-        let l = link_older requests newest level left r.level (get nat_cmp newest r.level) refl w in omega (arith, len))
-  ];
-  older_level = λ k h p. elim (cases_lt k n) [
-    | inl m ↦ (let o = w.older_is k m in
-        let p' : 0 < (request_at requests k).older = subst (λ (z : Request). 0 < z.older) (old k m) p in
-        ap (λ z. (request_at (requests ++ r ∷ []) (z - 1)).level) (ap (λ (z : Request). z.older) (old k m))
-        ∙ (level_old ((request_at requests k).older - 1) (omega arith) ∙ (w.older_level k m p' ∙ sym (level_old k m))))
-    | inr m ↦ (let z : k ≡ n = omega (arith, len) in
-        let o : (request_at (requests ++ r ∷ []) k).older ≡ link_to (get nat_cmp newest r.level) = ap (λ (z : Request). z.older) (last k z) ∙ link in
-        let l = link_older requests newest level left r.level (get nat_cmp newest r.level) refl w in
-        ap (λ z. (request_at (requests ++ r ∷ []) (z - 1)).level) o
-        ∙ (level_old (link_to (get nat_cmp newest r.level) - 1) (omega arith)
-        ∙ (link_level requests newest level left r.level (get nat_cmp newest r.level) refl w (omega arith) ∙ sym (ap (λ (z : Request). z.level) (last k z)))))
-  ];
-  levels = λ k h. elim (cases_lt k n) [
-    | inl m ↦ subst (λ (z : Request). z.level < 2 ^ 32) (sym (old k m)) (w.levels k m)
-    | inr m ↦ subst (λ (z : Request). z.level < 2 ^ 32) (sym (last k (omega (arith, len)))) range
-  ];
-  left_in = let l = w.left_in in omega (arith, len);
-  left_level = λ p. let l = w.left_in in level_old (left - 1) (omega arith) ∙ w.left_level p;
-  few = omega (arith, len);
-})
-  where
-    n : ℕ
-    n = length requests
-
-    len : length (requests ++ r ∷ []) ≡ length requests + 1
-    len = length_push requests r
-
-    old : (k : ℕ) → k < length requests → request_at (requests ++ r ∷ []) k ≡ request_at requests k
-    old k h = request-append requests r k h
-
-    last : (k : ℕ) → k ≡ length requests → request_at (requests ++ r ∷ []) k ≡ r
-    last k h = request-last requests r k h
-
-    level_old : (k : ℕ) → k < length requests → (request_at (requests ++ r ∷ []) k).level ≡ (request_at requests k).level
-    level_old k h = ap (λ (z : Request). z.level) (old k h)
-
-    newest_old : (k : ℕ) → k < length requests → level < (request_at requests k).level → (h : ℕ) × (get nat_cmp more (request_at (requests ++ r ∷ []) k).level ≡ Some h) × (k ≤ h)
-    newest_old k m l = elim (cases_eq (request_at requests k).level r.level) [
-      | inl s ↦ (length requests, ap (get nat_cmp more) (level_old k m ∙ s) ∙ updated-here newest more r.level (Some (length requests)) u, omega arith)
-      | inr ne ↦ (let i = w.newest_of k m l in
-          (i.0, ap (get nat_cmp more) (level_old k m) ∙ (updated-other newest more r.level (request_at requests k).level (Some (length requests)) u ne ∙ i.1), i.2))
+in_either : (b : List Request) (r q : Request) → IsIn (b ++ r ∷ []) q → IsIn b q ⊎ (q ≡ r)
+in_either b r q i =
+    let h = i.in_range in
+    let len = length_push b r in
+    elim (cases_lt i.place (length b)) [
+      | inl m ↦ inl (record { place = i.place; in_range = m; is = sym (get_or_append_left b (r ∷ []) none i.place m) ∙ i.is })
+      | inr m ↦ (let e : i.place ≡ length b = omega arith in inr (sym i.is ∙ (ap (request_at (b ++ r ∷ [])) e ∙ get_or-append_seam b r [] none)))
     ]
 
--- What a map keeps where nothing was entered.
-pub queue-unchanged : (newest same : BTreeMap ℕ ℕ) (requests again : List Request) (level left : ℕ) → IsQueue newest requests level left → IsUnchanged newest same → again ≡ requests → IsQueue same again level left
-queue-unchanged newest same requests again level left w e q = subst (λ z. IsQueue same z level left) (sym q) (record {
-  newest_of = λ k h l. let i = w.newest_of k h l in (i.0, got (request_at requests k).level ∙ i.1, i.2);
-  newest_is = λ x h f. w.newest_is x h (sym (got x) ∙ f);
-  older_of = w.older_of;
-  older_is = w.older_is;
-  older_level = w.older_level;
-  levels = w.levels;
-  left_in = w.left_in;
-  left_level = w.left_level;
-  few = w.few;
-})
+none_in : (q : Request) → IsIn [] q → ⊥
+none_in q i = let h = i.in_range in omega arith
+
+-- A request more, for a level that is still to come.
+abbrev asked : Queue → ℕ → Request → Buckets → List ℕ → Queue
+asked old x r later levels = record old { later = set later x (bucket_at later x ++ r ∷ []); levels = levels }
+
+asks : (old : Queue) (x : ℕ) (r : Request) (later : Buckets) (levels : List ℕ) → old.level < x → x < length later → ((y : ℕ) → bucket_at later y ≡ bucket_at old.later y) → Asks old (asked old x r later levels) x r
+asks old x r later levels h l same = record {
+  level = refl;
+  left = refl;
+  added = IsWaiting.later h (subst (λ z. IsIn z r) (sym here) (in_last (bucket_at later x) r));
+  kept = kept;
+  only = only;
+}
   where
-    got : (x : ℕ) → get nat_cmp same x ≡ get nat_cmp newest x
-    got x = ap (lookup (is_at (nat_cmp x))) e
+    here : bucket_at (set later x (bucket_at later x ++ r ∷ [])) x ≡ bucket_at later x ++ r ∷ []
+    here = bucket-here later x (bucket_at later x ++ r ∷ []) l
 
--- The map's first level and its newest request.
-pub record IsFirst (newest : BTreeMap ℕ ℕ) (x h : ℕ) : Type 0 where
-  pub value : get nat_cmp newest x ≡ Some h
-  pub least : IsLowerBound nat_cmp newest x
+    other : (y : ℕ) → y ≢ x → bucket_at (set later x (bucket_at later x ++ r ∷ [])) y ≡ bucket_at old.later y
+    other y n = bucket-other later x y (bucket_at later x ++ r ∷ []) n ∙ same y
 
-is_some_of : (k : ℕ) → IsSome {T = ℕ} (Some k)
-is_some_of k = search rules
+    kept : (y : ℕ) (q : Request) → IsWaiting old y q → IsWaiting (asked old x r later levels) y q
+    kept y q (IsWaiting.here e i) = IsWaiting.here e i
+    kept y q (IsWaiting.later m i) = IsWaiting.later m (elim (cases_eq y x) [
+      | inl e ↦ subst (λ z. IsIn z q) (sym (ap (bucket_at (set later x (bucket_at later x ++ r ∷ []))) e ∙ here))
+          (in_append (bucket_at later x) r q (subst (λ z. IsIn z q) (sym (same x)) (subst (λ z. IsIn (bucket_at old.later z) q) e i)))
+      | inr n ↦ subst (λ z. IsIn z q) (sym (other y n)) i
+    ])
 
-at_least : (newest : BTreeMap ℕ ℕ) (x h y k : ℕ) → IsFirst newest x h → get nat_cmp newest y ≡ Some k → x ≤ y
-at_least newest x h y k f e = le_from_not_gt x y (f.least y (subst (λ (z : Option ℕ). IsSome z) (sym e) (is_some_of k)))
+    only : (y : ℕ) (q : Request) → IsWaiting (asked old x r later levels) y q → IsWaiting old y q ⊎ ((y ≡ x) × (q ≡ r))
+    only y q (IsWaiting.here e i) = inl (IsWaiting.here e i)
+    only y q (IsWaiting.later m i) = elim (cases_eq y x) [
+      | inl e ↦ elim (in_either (bucket_at later x) r q (subst (λ z. IsIn z q) (ap (bucket_at (set later x (bucket_at later x ++ r ∷ []))) e ∙ here) i)) [
+        | inl j ↦ inl (IsWaiting.later m (subst (λ z. IsIn (bucket_at old.later z) q) (sym e) (subst (λ z. IsIn z q) (same x) j)))
+        | inr s ↦ inr (e, s)
+      ]
+      | inr n ↦ inl (IsWaiting.later m (subst (λ z. IsIn z q) (other y n) i))
+    ]
 
--- The queue goes on to the first level that is to come.
-pub queue-go_on : (newest rest : BTreeMap ℕ ℕ) (requests : List Request) (level left x h : ℕ) → IsQueue newest requests level left → IsFirst newest x h → Updates nat_cmp newest rest x None → IsQueue rest requests x (h + 1)
-queue-go_on newest rest requests level left x h w f u = record {
-  newest_of = λ k m l.
-      let above = (w.newest_is x h f.value).2 in
-      let i = w.newest_of k m (omega arith) in
-      (i.0, updated-other newest rest x (request_at requests k).level None u (let ne : (request_at requests k).level ≢ x = omega arith in ne) ∙ i.1, i.2);
-  newest_is = λ y k e. elim (cases_eq y x) [
-    | inl s ↦ absurd (some_none k (get nat_cmp rest y) (ap (get nat_cmp rest) s ∙ updated-here newest rest x None u) e)
-    | inr ne ↦ (let g : get nat_cmp newest y ≡ Some k = sym (updated-other newest rest x y None u ne) ∙ e in
-        let i = w.newest_is y k g in
-        let l = at_least newest x h y k f g in
-        let apart : y ≢ x = ne in
-        (i.0, i.1, omega arith))
-  ];
-  older_of = w.older_of;
-  older_is = w.older_is;
-  older_level = w.older_level;
-  levels = w.levels;
-  left_in = let i = (w.newest_is x h f.value).0 in omega arith;
-  left_level = λ p. ap (λ z. (request_at requests z).level) (let e : h + 1 - 1 ≡ h = omega arith in e) ∙ (w.newest_is x h f.value).1;
+pub asks_at : (old mid : Queue) (x : ℕ) (r : Request) (b c : List Request) → old.level < x → mid.level ≡ old.level → mid.left ≡ old.left → x < length mid.later → ((y : ℕ) → bucket_at mid.later y ≡ bucket_at old.later y)
+    → b ≡ bucket_at mid.later x → c ≡ b ++ r ∷ [] → Asks old (record mid { later = set mid.later x c }) x r
+asks_at old mid x r b c h level left l same e f =
+    let g : c ≡ bucket_at mid.later x ++ r ∷ [] = f ∙ ap (λ z. z ++ r ∷ []) e in
+    let q : asked old x r mid.later mid.levels ≡ record mid { later = set mid.later x c } = λ i. record { level = sym level i; left = sym left i; later = set mid.later x (sym g i); levels = mid.levels } in
+    subst (λ z. Asks old z x r) q (asks old x r mid.later mid.levels h l same)
+
+-- What is noted of a longer list of buckets.
+noted_longer : (later longer : Buckets) (level : ℕ) (levels : List ℕ) → length later ≤ length longer → All (IsNoted later level) levels → All (IsNoted longer level) levels
+noted_longer later longer level levels l all k d h = let n = all k d h in record { no_sooner = n.no_sooner; in_range = let r = n.in_range in omega arith }
+
+-- The buckets are the same, though there may be more.
+pub queue-widened : (levels : List ℕ) (later longer : Buckets) (level : ℕ) → IsQueue levels later level → length later ≤ length longer → length longer ≤ 2 ^ 32 → ((x : ℕ) → bucket_at longer x ≡ bucket_at later x) → IsQueue levels longer level
+queue-widened levels later longer level w l few same = record {
+  ordered = w.ordered;
+  noted = noted_longer later longer level levels l w.noted;
+  listed = λ x h. w.listed x (subst (λ (z : List Request). 0 < length z) (same x) h);
+  come = λ x h. same x ∙ w.come x h;
+  few = few;
+}
+
+-- A level is noted.
+queue-noted : (levels more : List ℕ) (later : Buckets) (level y : ℕ) → IsQueue levels later level → IsHeap nat_cmp more → IsPermutation (y ∷ levels) more → IsNoted later level y → IsQueue more later level
+queue-noted levels more later level y w heap p n = record {
+  ordered = heap;
+  noted = All-permutation (IsNoted later level) (y ∷ levels) more p (All-cons (IsNoted later level) y levels n w.noted);
+  listed = λ x h. let c = w.listed x h in Contains-permutation (y ∷ levels) more (2 ^ 32 - 1 - x) p (suc c.0, (let l = c.1 in omega arith), c.2);
+  come = w.come;
   few = w.few;
 }
+
+-- A bucket of a level that is noted gets a request, or none.
+pub queue-set : (levels : List ℕ) (later : Buckets) (level x : ℕ) (b : List Request) → IsQueue levels later level → level < x → Contains levels (2 ^ 32 - 1 - x) → IsQueue levels (set later x b) level
+queue-set levels later level x b w m c = record {
+  ordered = w.ordered;
+  noted = noted_longer later (set later x b) level levels (let l = length-set later x b in omega arith) w.noted;
+  listed = λ y h. elim (cases_eq y x) [
+    | inl e ↦ subst (λ z. Contains levels (2 ^ 32 - 1 - z)) (sym e) c
+    | inr n ↦ w.listed y (subst (λ (z : List Request). 0 < length z) (bucket-other later x y b n) h)
+  ];
+  come = λ y h. bucket-other later x y b (λ e. absurd (omega (arith, e))) ∙ w.come y h;
+  few = let l = length-set later x b in let f = w.few in omega arith;
+}
+
+pub noted_has : (levels more : List ℕ) (x : ℕ) → IsPermutation ((2 ^ 32 - 1 - x) ∷ levels) more → Contains more (2 ^ 32 - 1 - x)
+noted_has levels more x p = Contains-permutation ((2 ^ 32 - 1 - x) ∷ levels) more (2 ^ 32 - 1 - x) p (0, omega arith, refl)
+
+-- A level is noted, and its bucket stays empty.
+pub queue-open : (levels more : List ℕ) (later longer : Buckets) (level x : ℕ) (b : List Request) → IsQueue levels later level → length later ≤ length longer → length longer ≤ 2 ^ 32 → ((y : ℕ) → bucket_at longer y ≡ bucket_at later y)
+    → level < x → x < length longer → IsHeap nat_cmp more → IsPermutation ((2 ^ 32 - 1 - x) ∷ levels) more → IsQueue more (set longer x b) level
+queue-open levels more later longer level x b w l few same m h heap p =
+    queue-set more longer level x b
+    (queue-noted levels more longer level (2 ^ 32 - 1 - x) (queue-widened levels later longer level w l few same) heap p (record { no_sooner = omega arith; in_range = omega arith }))
+    m (noted_has levels more x p)
+
+in_buckets : (later : Buckets) (x : ℕ) → 0 < length (bucket_at later x) → x < length later
+in_buckets later x h = elim (cases_lt x (length later)) [
+  | inl m ↦ m
+  | inr m ↦ absurd (omega (arith, ap length (get_or_past later x [] m)))
+]
+
+below_here : (y e : ℕ) → is_lt (nat_cmp y e) ≡ false → e ≤ y
+below_here y e h = elim (cases_lt y e) [
+  | inl m ↦ absurd (differ (sym h ∙ ap (λ b. is_lt (cond b Less (cond (y == e) Equal Greater))) (lt-ltb y e m)))
+  | inr m ↦ m
+]
+  where
+    differ : false ≡ true → ⊥
+    differ q = cc
+
+-- No element is over the greatest.
+pub below_all : (y : ℕ) (rest : List ℕ) → IsUpperBound nat_cmp y rest → All (λ e. e ≤ y) rest
+below_all y [] b k d h = absurd (omega arith)
+below_all y (e ∷ rest) b zero d h = below_here y e b.0
+below_all y (e ∷ rest) b (suc k) d h = below_all y rest b.1 k d (omega arith)
+
+-- What is known of the level z of which the code was taken out.
+record IsTakenOut (levels rest : List ℕ) (later : Buckets) (level z : ℕ) : Type 0 where
+  pub code : 2 ^ 32 - 1 - z + z ≡ 2 ^ 32 - 1
+  pub no_sooner : level ≤ z
+  pub in_range : z < length later
+  pub noted : All (IsNoted later level) rest
+  pub others : (x : ℕ) → x ≢ z → 0 < length (bucket_at later x) → Contains rest (2 ^ 32 - 1 - x)
+
+rest_has : (rest : List ℕ) (y a : ℕ) → a ≢ y → Contains (y ∷ rest) a → Contains rest a
+rest_has rest y a n c = at c.0 c.1 c.2
+  where
+    at : (k : ℕ) → k < suc (length rest) → get_or (y ∷ rest) k a ≡ a → Contains rest a
+    at zero h e = absurd (n (sym e))
+    at (suc k) h e = (k, omega arith, e)
+
+taken_out : (levels rest : List ℕ) (later : Buckets) (level y : ℕ) → IsQueue levels later level → y < 2 ^ 32 → IsPermutation levels (y ∷ rest) → IsTakenOut levels rest later level (2 ^ 32 - 1 - y)
+taken_out levels rest later level y w range p =
+    let all = All-permutation (IsNoted later level) levels (y ∷ rest) p w.noted in
+    let one : IsNoted later level y = all 0 0 (omega arith) in
+    let a = one.no_sooner in
+    let b = one.in_range in
+    let few = w.few in
+    record {
+      code = omega arith;
+      no_sooner = omega arith;
+      in_range = omega arith;
+      noted = All-tail (IsNoted later level) y rest all;
+      others = λ x n h.
+          let l = in_buckets later x h in
+          let apart : x ≢ 2 ^ 32 - 1 - y = n in
+          rest_has rest y (2 ^ 32 - 1 - x) (λ e. absurd (omega (arith, e))) (Contains-permutation levels (y ∷ rest) (2 ^ 32 - 1 - x) p (w.listed x h));
+    }
+
+pub out_in_range : (levels rest : List ℕ) (later : Buckets) (level y : ℕ) → IsQueue levels later level → y < 2 ^ 32 → IsPermutation levels (y ∷ rest) → 2 ^ 32 - 1 - y < length later
+out_in_range levels rest later level y w range p = (taken_out levels rest later level y w range p).in_range
+
+emptied : (later : Buckets) (z x : ℕ) → z < length later → 0 < length (bucket_at (set later z []) x) → (x ≢ z) × (0 < length (bucket_at later x))
+emptied later z x l h = elim (cases_eq x z) [
+  | inl e ↦ absurd (omega (arith, ap length (ap (bucket_at (set later z [])) e ∙ bucket-here later z [] l)))
+  | inr n ↦ (n, subst (λ (b : List Request). 0 < length b) (bucket-other later z x [] n) h)
+]
+
+-- The requests of the level are given up.
+pub queue-given_up : (levels rest : List ℕ) (later : Buckets) (level y : ℕ) (b : List Request) → IsQueue levels later level → y < 2 ^ 32 → IsPermutation levels (y ∷ rest) → IsHeap nat_cmp rest → b ≡ [] → IsQueue rest (set later (2 ^ 32 - 1 - y) b) level
+queue-given_up levels rest later level y b w range p heap e =
+    let z : ℕ = 2 ^ 32 - 1 - y in
+    let t = taken_out levels rest later level y w range p in
+    subst (λ (b : List Request). IsQueue rest (set later (2 ^ 32 - 1 - y) b) level) (sym e) (record {
+      ordered = heap;
+      noted = noted_longer later (set later z []) level rest (let l = length-set later z [] in omega arith) t.noted;
+      listed = λ x h. let m = emptied later z x t.in_range h in t.others x m.0 m.1;
+      come = λ x h. elim (cases_eq x z) [
+        | inl s ↦ ap (bucket_at (set later z [])) s ∙ bucket-here later z [] t.in_range
+        | inr n ↦ bucket-other later z x [] n ∙ w.come x h
+      ];
+      few = let l = length-set later z [] in let f = w.few in omega arith;
+    })
+
+-- A level before the least one that is noted has no requests.
+none_before : (levels rest : List ℕ) (later : Buckets) (level y x : ℕ) → IsQueue levels later level → y < 2 ^ 32 → IsPermutation levels (y ∷ rest) → All (λ e. e ≤ y) rest → x < 2 ^ 32 - 1 - y → 0 < length (bucket_at later x) → ⊥
+none_before levels rest later level y x w range p below l h =
+    let t = taken_out levels rest later level y w range p in
+    let c = t.others x (λ e. absurd (omega (arith, e))) h in
+    let b = below c.0 (2 ^ 32 - 1 - x) c.1 in
+    omega (arith, c.2)
+
+-- The queue goes on to the least level that is noted.
+pub queue-go_on : (levels rest : List ℕ) (later : Buckets) (level y : ℕ) (b : List Request) → IsQueue levels later level → y < 2 ^ 32 → IsPermutation levels (y ∷ rest) → IsHeap nat_cmp rest → All (λ e. e ≤ y) rest → b ≡ [] → IsQueue rest (set later (2 ^ 32 - 1 - y) b) (2 ^ 32 - 1 - y)
+queue-go_on levels rest later level y b w range p heap below e =
+    let z : ℕ = 2 ^ 32 - 1 - y in
+    let t = taken_out levels rest later level y w range p in
+    subst (λ (b : List Request). IsQueue rest (set later (2 ^ 32 - 1 - y) b) (2 ^ 32 - 1 - y)) (sym e) (record {
+      ordered = heap;
+      noted = λ k d h.
+          let n = t.noted k d h in
+          let l = length-set later z [] in
+          let m = below k d h in
+          record { no_sooner = omega arith; in_range = let r = n.in_range in omega arith };
+      listed = λ x h. let m = emptied later z x t.in_range h in t.others x m.0 m.1;
+      come = λ x h. elim (cases_eq x z) [
+        | inl s ↦ ap (bucket_at (set later z [])) s ∙ bucket-here later z [] t.in_range
+        | inr n ↦ (let apart : x ≢ z = n in bucket-other later z x [] n ∙ none_of (bucket_at later x) (none_before levels rest later level y x w range p below (omega arith)))
+      ];
+      few = let l = length-set later z [] in let f = w.few in omega arith;
+    })
+  where
+    none_of : (b : List Request) → (0 < length b → ⊥) → b ≡ []
+    none_of [] n = refl
+    none_of (r ∷ b) n = absurd (n (omega arith))
+
+in_some : (b : List Request) (r : Request) → IsIn b r → 0 < length b
+in_some b r i = let h = i.in_range in omega arith
 
 -- The same requests wait.
-pub waiting-go_on : (newest : BTreeMap ℕ ℕ) (requests : List Request) (level x h : ℕ) → IsQueue newest requests level 0 → IsFirst newest x h → (k : ℕ)
-    → (IsWaiting (record { requests = requests; level = x; left = h + 1 }) k → IsWaiting (record { requests = requests; level = level; left = 0 }) k)
-    × (IsWaiting (record { requests = requests; level = level; left = 0 }) k → IsWaiting (record { requests = requests; level = x; left = h + 1 }) k)
-waiting-go_on newest requests level x h w f k = (forth, back)
+pub waiting-go_on : (levels rest : List ℕ) (old : Queue) (y : ℕ) (left b : List Request) → IsQueue levels old.later old.level → length old.left ≡ 0 → y < 2 ^ 32 → IsPermutation levels (y ∷ rest) → All (λ e. e ≤ y) rest
+    → left ≡ bucket_at old.later (2 ^ 32 - 1 - y) → b ≡ [] → WaitsAlike old (record { level = 2 ^ 32 - 1 - y; left = left; later = set old.later (2 ^ 32 - 1 - y) b; levels = rest })
+waiting-go_on levels rest old y left b w none range p below f e x r = (forth, back)
   where
-    above : level < x
-    above = (w.newest_is x h f.value).2
+    z : ℕ
+    z = 2 ^ 32 - 1 - y
 
-    forth : IsWaiting (record { requests = requests; level = x; left = h + 1 }) k → IsWaiting (record { requests = requests; level = level; left = 0 }) k
-    forth v = record { in_range = v.in_range; turn = inl (elim v.turn [ inl l ↦ omega (arith, above) | inr e ↦ omega (arith, above, e.0) ]) }
+    new : Queue
+    new = record { level = z; left = left; later = set old.later z b; levels = rest }
 
-    came : k < length requests → level < (request_at requests k).level → IsWaiting (record { requests = requests; level = x; left = h + 1 }) k
-    came m l =
-        let i = w.newest_of k m l in
-        let a = at_least newest x h (request_at requests k).level i.0 f i.1 in
-        elim (cases_eq (request_at requests k).level x) [
-          | inl e ↦ (let s = same_some i.0 h (sym i.1 ∙ (ap (get nat_cmp newest) e ∙ f.value)) in
-              record { in_range = m; turn = inr (e, omega (arith, i.2)) })
-          | inr ne ↦ (let apart : (request_at requests k).level ≢ x = ne in record { in_range = m; turn = inl (omega arith) })
-        ]
+    t : IsTakenOut levels rest old.later old.level z
+    t = taken_out levels rest old.later old.level y w range p
 
-    back : IsWaiting (record { requests = requests; level = level; left = 0 }) k → IsWaiting (record { requests = requests; level = x; left = h + 1 }) k
-    back v = elim v.turn [ inl l ↦ came v.in_range l | inr e ↦ absurd (omega (arith, e.1)) ]
+    here : bucket_at (set old.later z b) z ≡ []
+    here = bucket-here old.later z b t.in_range ∙ e
 
-pub falls-go_on : (newest : BTreeMap ℕ ℕ) (requests : List Request) (level x h : ℕ) → IsQueue newest requests level 0 → IsFirst newest x h
-    → turns_left (record { requests = requests; level = x; left = h + 1 }) ≤ turns_left (record { requests = requests; level = level; left = 0 })
-falls-go_on newest requests level x h w f =
-    let i = w.newest_is x h f.value in
-    let few = w.few in
-    let range = subst (λ z. z < 2 ^ 32) i.1 (w.levels h i.0) in
-    omega (arith, i.0, i.2)
+    come : IsIn (bucket_at old.later z) r → IsWaiting old z r
+    come i = elim (cases_lt old.level z) [
+      | inl m ↦ IsWaiting.later m i
+      | inr m ↦ absurd (let n = t.no_sooner in let c = w.come z m in let h = in_some (bucket_at old.later z) r i in omega (arith, ap length c))
+    ]
 
--- The newest request that waits at the level that has come is taken.
-pub queue-take : (newest : BTreeMap ℕ ℕ) (requests : List Request) (level left : ℕ) → IsQueue newest requests level left → 0 < left → IsQueue newest requests level (request_at requests (left - 1)).older
-queue-take newest requests level left w p =
-    let l = w.left_in in
-    let k : left - 1 < length requests = omega arith in
-    let o = w.older_is (left - 1) k in
-    record {
-      newest_of = w.newest_of;
-      newest_is = w.newest_is;
-      older_of = w.older_of;
-      older_is = w.older_is;
-      older_level = w.older_level;
-      levels = w.levels;
-      left_in = omega arith;
-      left_level = λ q. w.older_level (left - 1) k q ∙ w.left_level p;
-      few = w.few;
-    }
+    forth : IsWaiting new x r → IsWaiting old x r
+    forth (IsWaiting.here q i) = subst (λ v. IsWaiting old v r) (sym q) (come (subst (λ v. IsIn v r) f i))
+    forth (IsWaiting.later m i) = let n = t.no_sooner in IsWaiting.later (omega arith) (subst (λ v. IsIn v r) (bucket-other old.later z x b (λ q. absurd (omega (arith, q)))) i)
 
-pub takes : (newest : BTreeMap ℕ ℕ) (q : Queue) → IsQueue newest q.requests q.level q.left → 0 < q.left → Takes q (record q { left = (request_at q.requests (q.left - 1)).older }) (q.left - 1)
-takes newest q w p =
-    let l = w.left_in in
-    let k : q.left - 1 < length q.requests = omega arith in
-    let older = w.older_is (q.left - 1) k in
-    let level = w.left_level p in
-    record {
-      waited = record { in_range = k; turn = inr (level, omega arith) };
-      requests = refl;
-      level = sym level;
-      no_sooner = omega arith;
-      kept = λ j v n. record {
-        in_range = v.in_range;
-        turn = elim v.turn [
-          | inl a ↦ inl a
-          | inr e ↦ (let ne : j ≢ q.left - 1 = n in inr (e.0, w.older_of j (q.left - 1) (omega (arith, e.1)) k (e.0 ∙ sym level)))
-        ];
-      };
-      only = λ j v. record {
-        in_range = v.in_range;
-        turn = elim v.turn [
-          | inl a ↦ inl a
-          | inr e ↦ inr (e.0, omega (arith, e.1))
-        ];
-      };
-      taken = λ v. elim v.turn [
-        | inl a ↦ omega arith
-        | inr e ↦ omega (arith, e.1)
-      ];
-    }
+    back : IsWaiting old x r → IsWaiting new x r
+    back (IsWaiting.here q i) = absurd (let h = i.in_range in omega arith)
+    back (IsWaiting.later m i) = elim (cases_eq x z) [
+      | inl q ↦ IsWaiting.here q (subst (λ v. IsIn v r) (sym f) (subst (λ v. IsIn (bucket_at old.later v) r) q i))
+      | inr n ↦ elim (cases_lt x z) [
+        | inl l ↦ absurd (none_before levels rest old.later old.level y x w range p below l (in_some (bucket_at old.later x) r i))
+        | inr l ↦ (let apart : x ≢ z = n in IsWaiting.later (omega arith) (subst (λ v. IsIn v r) (sym (bucket-other old.later z x b n)) i))
+      ]
+    ]
 
--- What holds of a queue that went on holds of it before.
-pub takes_before : (before old new : Queue) (k : ℕ) → old.requests ≡ before.requests → ((j : ℕ) → (IsWaiting old j → IsWaiting before j) × (IsWaiting before j → IsWaiting old j)) → before.level ≤ old.level → Takes old new k → Takes before new k
-takes_before before old new k q same l t = record {
-  waited = (same k).0 t.waited;
-  requests = t.requests ∙ q;
-  level = t.level ∙ ap (λ z. (request_at z k).level) q;
-  no_sooner = let m = t.no_sooner in omega arith;
-  kept = λ j v n. t.kept j ((same j).1 v) n;
-  only = λ j v. (same j).0 (t.only j v);
-  taken = t.taken;
+-- A number that falls does not rise where the queue goes on.
+pub falls-go_on : (levels rest : List ℕ) (old : Queue) (y : ℕ) (left : List Request) (later : Buckets) → IsQueue levels old.later old.level → length old.left ≡ 0 → y < 2 ^ 32 → IsPermutation levels (y ∷ rest)
+    → left ≡ bucket_at old.later (2 ^ 32 - 1 - y) → length left < 2 ^ 64 → turns_left (record { level = 2 ^ 32 - 1 - y; left = left; later = later; levels = rest }) ≤ turns_left old
+falls-go_on levels rest old y left later w none range p f small =
+    let t = taken_out levels rest old.later old.level y w range p in
+    let n = t.no_sooner in
+    elim (cases_lt old.level (2 ^ 32 - 1 - y)) [
+      | inl m ↦ omega arith
+      | inr m ↦ (let c = w.come (2 ^ 32 - 1 - y) m in omega (arith, ap length f, ap length c))
+    ]
+
+-- Where nothing is noted, and nothing is left, nothing waits.
+pub none_noted : (levels : List ℕ) (later : Buckets) (level : ℕ) → IsQueue levels later level → length levels ≡ 0 → (x : ℕ) → bucket_at later x ≡ []
+none_noted levels later level w e x = none_of (bucket_at later x) (λ h. let c = w.listed x h in let l = c.1 in omega arith)
+  where
+    none_of : (b : List Request) → (0 < length b → ⊥) → b ≡ []
+    none_of [] n = refl
+    none_of (r ∷ b) n = absurd (n (omega arith))
+
+pub none_waits : (q : Queue) → length q.left ≡ 0 → ((x : ℕ) → bucket_at q.later x ≡ []) → (x : ℕ) (r : Request) → IsWaiting q x r → ⊥
+none_waits q e n x r (IsWaiting.here s i) = let h = i.in_range in omega arith
+none_waits q e n x r (IsWaiting.later m i) = let h = in_some (bucket_at q.later x) r i in omega (arith, ap length (n x))
+
+pub queue-empty : (levels : List ℕ) (later : Buckets) (level : ℕ) → IsHeap nat_cmp levels → length levels ≡ 0 → length later ≤ 2 ^ 32 → ((x : ℕ) → bucket_at later x ≡ []) → IsQueue levels later level
+queue-empty levels later level heap e few none = record {
+  ordered = heap;
+  noted = λ k d h. absurd (omega arith);
+  listed = λ x h. absurd (omega (arith, ap length (none x)));
+  come = λ x h. none x;
+  few = few;
 }
+
+-- A bucket more, without requests.
+pub bucket-more : (later longer : Buckets) (b : List Request) → longer ≡ later ++ b ∷ [] → b ≡ [] → (x : ℕ) → bucket_at longer x ≡ bucket_at later x
+bucket-more later longer b e n x = ap (λ z. bucket_at z x) e ∙ elim (cases_lt x (length later)) [
+  | inl m ↦ get_or_append_left later (b ∷ []) [] x m
+  | inr m ↦ elim (cases_eq x (length later)) [
+    | inl q ↦ ap (bucket_at (later ++ b ∷ [])) q ∙ (get_or-append_seam later b [] [] ∙ (n ∙ sym (get_or_past later x [] m)))
+    | inr ne ↦ (let apart : x ≢ length later = ne in let len = length_push later b in get_or_past (later ++ b ∷ []) x [] (omega arith) ∙ sym (get_or_past later x [] m))
+  ]
+]
+
+-- A request is taken from those that are left.
+pub takes : (old mid new : Queue) (r : Request) → WaitsAlike old mid → old.level ≤ mid.level → new.level ≡ mid.level → new.later ≡ mid.later → mid.left ≡ new.left ++ r ∷ [] → Takes old new r
+takes old mid new r alike later level buckets left = record {
+  waited = (alike new.level r).0 (IsWaiting.here level (subst (λ z. IsIn z r) (sym left) (in_last new.left r)));
+  no_sooner = omega arith;
+  kept = λ x q v. kept x q ((alike x q).1 v);
+  only = λ x q v. (alike x q).0 (only x q v);
+}
+  where
+    kept : (x : ℕ) (q : Request) → IsWaiting mid x q → IsWaiting new x q ⊎ ((x ≡ new.level) × (q ≡ r))
+    kept x q (IsWaiting.here e i) = elim (in_either new.left r q (subst (λ z. IsIn z q) left i)) [
+      | inl j ↦ inl (IsWaiting.here (e ∙ sym level) j)
+      | inr s ↦ inr (e ∙ sym level, s)
+    ]
+    kept x q (IsWaiting.later m i) = inl (IsWaiting.later (omega arith) (subst (λ z. IsIn (bucket_at z x) q) (sym buckets) i))
+
+    only : (x : ℕ) (q : Request) → IsWaiting new x q → IsWaiting mid x q
+    only x q (IsWaiting.here e i) = IsWaiting.here (e ∙ level) (subst (λ z. IsIn z q) (sym left) (in_append new.left r q i))
+    only x q (IsWaiting.later m i) = IsWaiting.later (omega arith) (subst (λ z. IsIn (bucket_at z x) q) buckets i)

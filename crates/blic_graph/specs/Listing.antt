@@ -5,8 +5,9 @@ use Rattle.blic_store.specs.Diagram.{cofactor}
 use Rattle.blic_store.specs.Under.{IsUnder}
 use Rattle.blic_graph.specs.declared.pair.Pair.{Pair}
 use Rattle.blic_graph.specs.declared.pair.Side.{Side}
-use Rattle.blic_graph.specs.Pairs.{StandsAt, level_of_pair, pair_at}
-use Rattle.blic_graph.specs.Queue.{Asks, IsWaiting, Queue, request_at}
+use Rattle.blic_graph.specs.declared.waiting.Request.{Request}
+use Rattle.blic_graph.specs.Pairs.{IsSide, StandsAt, level_of_pair, pair_at}
+use Rattle.blic_graph.specs.Queue.{Asks, IsWaiting, Queue, bit_of, pair_of}
 
 -- a listing as contracts see it: the two functions, how many pairs it may hold, those that it has found, the first of them that is of the level that has come, and what waits
 pub record Found : Type 0 where
@@ -28,7 +29,7 @@ hash_of_pair x = hash_of x.first x.second
 pub record IsEntered (pairs : List Pair) (start : ℕ) (hashes : List ℕ) : Type 0 where
   pub entered : hashes ≡ map hash_of_pair (drop start pairs)
   pub start_in : start ≤ length pairs
-  pub few : length pairs < 2 ^ 32
+  pub few : length pairs ≤ 536870912
 
 -- no pair of r and s stands at `start` or later
 abbrev pub IsMissing : List Pair → ℕ → ℕ → ℕ → Type 0
@@ -49,12 +50,12 @@ side_of x bit = cond bit x.high x.low
 abbrev pub with_side : Pair → Bool → Side → Pair
 with_side x bit side = cond bit (record x { high = side }) (record x { low = side })
 
--- the side of a pair at the bit, where it is c and d, is asked for, if neither is constant
-pub data IsAsked (nodes : List Decision) (old new : Queue) (pair c d : ℕ) (bit : Bool) : Type 0 where
-  constant : min c d < 2 → new ≡ old → IsAsked nodes old new pair c d bit
-  inner : 2 ≤ c → 2 ≤ d → Asks old new pair bit (level_of_pair nodes c d) → IsAsked nodes old new pair c d bit
+-- what a pair becomes at a bit, c and d: that is its side, or asked for if it is a pair too
+pub data IsAsked (nodes : List Decision) (old new : Queue) (place c d : ℕ) (side : Side) : Type 0 where
+  constant : min c d < 2 → side ≡ Side.Done c d → new ≡ old → IsAsked nodes old new place c d side
+  inner : 2 ≤ c → 2 ≤ d → Asks old new (level_of_pair nodes c d) (record { first = c; second = d; place = place }) → IsAsked nodes old new place c d side
 
--- a pair of r and s is new at the level that has come; its sides are the functions that they are, and wait where they are pairs
+-- a pair of r and s is new at the level that has come; its sides are known, or wait
 pub record AddsPair (nodes : List Decision) (old new : Found) (r s : ℕ) : Type 0 where
   pub missing : IsMissing old.pairs old.start r s
   pub room : length old.pairs < old.most
@@ -62,17 +63,25 @@ pub record AddsPair (nodes : List Decision) (old new : Found) (r s : ℕ) : Type
   pub level : pair.level ≡ old.queue.level
   pub first : pair.first ≡ r
   pub second : pair.second ≡ s
-  pub low : pair.low ≡ Side.Done (first_at nodes pair false) (second_at nodes pair false)
-  pub high : pair.high ≡ Side.Done (first_at nodes pair true) (second_at nodes pair true)
   pub between : Queue
-  pub asked_low : IsAsked nodes old.queue between (length old.pairs) (first_at nodes pair false) (second_at nodes pair false) false
-  pub asked_high : IsAsked nodes between new.queue (length old.pairs) (first_at nodes pair true) (second_at nodes pair true) true
+  pub asked_low : IsAsked nodes old.queue between (2 * length old.pairs + 0) (first_at nodes pair false) (second_at nodes pair false) pair.low
+  pub asked_high : IsAsked nodes between new.queue (2 * length old.pairs + 1) (first_at nodes pair true) (second_at nodes pair true) pair.high
   pub added : new ≡ record old { pairs = old.pairs ++ pair ∷ []; queue = new.queue }
 
 -- there is no room for a pair of r and s, which is new
 pub record IsWithoutRoom (old : Found) (r s : ℕ) : Type 0 where
   pub missing : IsMissing old.pairs old.start r s
   pub full : old.most ≤ length old.pairs
+
+-- a listing that has begun
+pub record IsBegun (l : Found) (first second most level : ℕ) : Type 0 where
+  pub first_is : l.first ≡ first
+  pub second_is : l.second ≡ second
+  pub most_is : l.most ≡ most
+  pub pairs : l.pairs ≡ []
+  pub start : l.start ≡ 0
+  pub level_is : l.queue.level ≡ level
+  pub none : (x : ℕ) (r : Request) → IsWaiting l.queue x r → ⊥
 
 -- a level begins, if it has not come before
 pub record Begins (old new : Found) : Type 0 where
@@ -92,39 +101,37 @@ pub record IsFoundPair (nodes : List Decision) (a b : ℕ) (x : Pair) : Type 0 w
   pub of : IsUnderBoth nodes a b x.first x.second
   pub level : x.level ≡ level_of_pair nodes x.first x.second
 
--- request i is for the pair's side at the bit
-pub record IsFor (q : Queue) (i pair : ℕ) (bit : Bool) : Type 0 where
-  pub in_range : i < length q.requests
-  pub pair_is : (request_at q.requests i).pair ≡ pair
-  pub bit_is : (request_at q.requests i).bit ≡ bit
+-- the request is for the pair's side at the bit
+pub record IsFor (r : Request) (pair : ℕ) (bit : Bool) : Type 0 where
+  pub pair_is : pair_of r ≡ pair
+  pub bit_is : bit_of r ≡ bit
 
--- a side names the pair, or has the two functions while their pair is not known
+-- a side says what the two functions are, or waits
 abbrev pub IsSideSoFar : List Pair → Type 0 → Side → ℕ → ℕ → Type 0
-IsSideSoFar pairs waits (Side.Pair n) r s = StandsAt pairs n r s
-IsSideSoFar pairs waits (Side.Done c d) r s = (c ≡ r) × (d ≡ s) × ((min c d < 2) ⊎ waits)
+IsSideSoFar pairs waits side r s = IsSide pairs side r s ⊎ waits
 
--- what is known of a request that is open: its side has two functions, neither constant, whose level it waits for
-pub record IsOpen (nodes : List Decision) (l : Found) (i : ℕ) : Type 0 where
-  pub in_range : i < length l.queue.requests
-  pub pair_in : (request_at l.queue.requests i).pair < length l.pairs
-  pub first : ℕ
-  pub second : ℕ
-  pub side : side_of (pair_at l.pairs (request_at l.queue.requests i).pair) (request_at l.queue.requests i).bit ≡ Side.Done first second
-  pub first_inner : 2 ≤ first
-  pub second_inner : 2 ≤ second
-  pub level : (request_at l.queue.requests i).level ≡ level_of_pair nodes first second
+-- what is known of a request that is open: it has what its pair becomes, neither constant, and waits for their level
+pub record IsOpen (nodes : List Decision) (pairs : List Pair) (y : ℕ) (r : Request) : Type 0 where
+  pub pair_in : pair_of r < length pairs
+  pub first : r.first ≡ first_at nodes (pair_at pairs (pair_of r)) (bit_of r)
+  pub second : r.second ≡ second_at nodes (pair_at pairs (pair_of r)) (bit_of r)
+  pub first_inner : 2 ≤ r.first
+  pub second_inner : 2 ≤ r.second
+  pub level : y ≡ level_of_pair nodes r.first r.second
+
+-- an open request for the pair's side at the bit
+abbrev pub Waits : (ℕ → Request → Type 0) → ℕ → Bool → Type 0
+Waits Open k bit = (y : ℕ) × (r : Request) × Open y r × IsFor r k bit
 
 -- the pairs that were found stand by level, and each side of each is known, constant, or named by an open request
-pub record IsListing (nodes : List Decision) (l : Found) (Open : ℕ → Type 0) : Type 0 where
+pub record IsListing (nodes : List Decision) (l : Found) (Open : ℕ → Request → Type 0) : Type 0 where
   pub found : (k : ℕ) → k < length l.pairs → IsFoundPair nodes l.first l.second (pair_at l.pairs k)
   pub rising : (j k : ℕ) → j ≤ k → k < length l.pairs → (pair_at l.pairs j).level ≤ (pair_at l.pairs k).level
   pub no_later : (k : ℕ) → k < length l.pairs → (pair_at l.pairs k).level ≤ l.queue.level
   pub before_start : (k : ℕ) → k < l.start → k < length l.pairs → (pair_at l.pairs k).level < l.queue.level
   pub once : (j k : ℕ) → j < k → k < length l.pairs → (pair_at l.pairs j).first ≡ (pair_at l.pairs k).first → (pair_at l.pairs j).second ≢ (pair_at l.pairs k).second
-  pub sides : (k : ℕ) (bit : Bool) → k < length l.pairs → let x = pair_at l.pairs k in IsSideSoFar l.pairs ((i : ℕ) × Open i × IsFor l.queue i k bit) (side_of x bit) (first_at nodes x bit) (second_at nodes x bit)
-  pub opened : (i : ℕ) → Open i → IsOpen nodes l i
-  pub pairs_in : (i : ℕ) → i < length l.queue.requests → (request_at l.queue.requests i).pair < length l.pairs
-  pub asked_once : (i j : ℕ) → i < j → j < length l.queue.requests → ((request_at l.queue.requests i).pair < (request_at l.queue.requests j).pair) ⊎ (((request_at l.queue.requests i).pair ≡ (request_at l.queue.requests j).pair) × ((request_at l.queue.requests i).bit ≡ false) × ((request_at l.queue.requests j).bit ≡ true))
+  pub sides : (k : ℕ) (bit : Bool) → k < length l.pairs → let x = pair_at l.pairs k in IsSideSoFar l.pairs (Waits Open k bit) (side_of x bit) (first_at nodes x bit) (second_at nodes x bit)
+  pub opened : (y : ℕ) (r : Request) → Open y r → IsOpen nodes l.pairs y r
   pub start_in : l.start ≤ length l.pairs
   pub few : length l.pairs ≤ l.most
 
@@ -133,10 +140,11 @@ pub record IsGoing (nodes : List Decision) (l : Found) : Type 0 where
   pub listing : IsListing nodes l (IsWaiting l.queue)
   pub root : StandsAt l.pairs 0 l.first l.second
 
+-- a request waits, or is r, at the level that has come
+abbrev pub IsOr : Queue → Request → ℕ → Request → Type 0
+IsOr queue r y q = IsWaiting queue y q ⊎ ((y ≡ queue.level) × (q ≡ r))
+
 -- a listing in which one request that was taken is open too
-pub record IsTaken (nodes : List Decision) (l : Found) (k : ℕ) : Type 0 where
-  pub in_range : k < length l.queue.requests
-  pub taken : IsWaiting l.queue k → ⊥
-  pub level : (request_at l.queue.requests k).level ≡ l.queue.level
-  pub listing : IsListing nodes l (λ i. IsWaiting l.queue i ⊎ (i ≡ k))
+pub record IsTaken (nodes : List Decision) (l : Found) (r : Request) : Type 0 where
+  pub listing : IsListing nodes l (IsOr l.queue r)
   pub root : StandsAt l.pairs 0 l.first l.second

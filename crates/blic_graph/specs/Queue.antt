@@ -1,56 +1,74 @@
--- Sides of pairs that wait for their level, each by its number; the least level comes first, and of one level the newest.
-use Rattle.std.specs.Prelude.{ℕ, ◌+◌, ◌*◌, ◌-◌, ◌^◌, ◌<◌, ◌≤◌, ◌≡◌, ◌≢◌, ◌⊎◌, Bool, false, List, [], ◌∷◌, ◌++◌, length, slice_index_or, Option, Some, None}
-use Rattle.std.specs.BTreeMap.{BTreeMap, get}
+-- Requests that wait for their level: those left at the level that has come, and of each later level a bucket.
+use Rattle.std.specs.Prelude.{ℕ, ◌+◌, ◌*◌, ◌-◌, ◌/◌, ◌%◌, ◌^◌, ◌<◌, ◌≤◌, ◌≡◌, ◌⊎◌, ◌==◌, Bool, List, [], length, slice_index_or}
+use Rattle.std.specs.List.{All, Contains}
+use Rattle.std.specs.BinaryHeap.{IsHeap}
 use Rattle.std.specs.Ordering.{nat_cmp}
 use Rattle.blic_graph.specs.declared.waiting.Request.{Request}
 
--- a queue as contracts see it: all requests that were made, the level that has come, and how many requests may still wait at that level
+-- a queue as contracts see it: the level that has come, the requests that are left there, the bucket of each level, and the levels that are noted as still to come
 pub record Queue : Type 0 where
-  pub requests : List Request
   pub level : ℕ
-  pub left : ℕ
+  pub left : List Request
+  pub later : List (List Request)
+  pub levels : List ℕ
 
--- request k
+-- the pair that a request is for, and the bit of its side
+abbrev pub pair_of : Request → ℕ
+pair_of r = r.place / 2
+
+abbrev pub bit_of : Request → Bool
+bit_of r = r.place % 2 == 1
+
 abbrev pub request_at : List Request → ℕ → Request
-request_at requests k = slice_index_or requests k (record { pair = 0; bit = false; level = 0; older = 0 })
+request_at requests k = slice_index_or requests k (record { first = 0; second = 0; place = 0 })
 
--- request k waits: its level is still to come, or has come and the request was not taken
-pub record IsWaiting (q : Queue) (k : ℕ) : Type 0 where
-  pub in_range : k < length q.requests
-  pub turn : (q.level < (request_at q.requests k).level) ⊎ (((request_at q.requests k).level ≡ q.level) × (k < q.left))
+-- the bucket of a level
+abbrev pub bucket_at : List (List Request) → ℕ → List Request
+bucket_at later x = slice_index_or later x []
 
--- request k, which waited for the least level, is taken
-pub record Takes (old new : Queue) (k : ℕ) : Type 0 where
-  pub waited : IsWaiting old k
-  pub requests : new.requests ≡ old.requests
-  pub level : new.level ≡ (request_at old.requests k).level
+-- r is one of the requests
+pub record IsIn (requests : List Request) (r : Request) : Type 0 where
+  pub place : ℕ
+  pub in_range : place < length requests
+  pub is : request_at requests place ≡ r
+
+-- request r waits for level x: it is left at the level that has come, or its level is still to come
+pub data IsWaiting (q : Queue) (x : ℕ) (r : Request) : Type 0 where
+  here : x ≡ q.level → IsIn q.left r → IsWaiting q x r
+  later : q.level < x → IsIn (bucket_at q.later x) r → IsWaiting q x r
+
+-- request r, of the least level, is taken
+pub record Takes (old new : Queue) (r : Request) : Type 0 where
+  pub waited : IsWaiting old new.level r
   pub no_sooner : old.level ≤ new.level
-  pub kept : (j : ℕ) → IsWaiting old j → j ≢ k → IsWaiting new j
-  pub only : (j : ℕ) → IsWaiting new j → IsWaiting old j
-  pub taken : IsWaiting new k → ⊥
+  pub kept : (x : ℕ) (q : Request) → IsWaiting old x q → IsWaiting new x q ⊎ ((x ≡ new.level) × (q ≡ r))
+  pub only : (x : ℕ) (q : Request) → IsWaiting new x q → IsWaiting old x q
+
+-- the same requests wait
+abbrev pub WaitsAlike : Queue → Queue → Type 0
+WaitsAlike old new = (x : ℕ) (r : Request) → (IsWaiting new x r → IsWaiting old x r) × (IsWaiting old x r → IsWaiting new x r)
 
 -- a number that falls where a request is taken
 abbrev pub turns_left : Queue → ℕ
-turns_left q = (2 ^ 32 - q.level) * 2 ^ 33 + q.left
+turns_left q = (2 ^ 32 - q.level) * 2 ^ 64 + length q.left
 
--- a side of a pair is asked for at a level
-pub record Asks (old new : Queue) (pair : ℕ) (bit : Bool) (level : ℕ) : Type 0 where
-  pub older : ℕ
-  pub added : new ≡ record old { requests = old.requests ++ (record { pair = pair; bit = bit; level = level; older = older }) ∷ [] }
+-- request r waits for level x too
+pub record Asks (old new : Queue) (x : ℕ) (r : Request) : Type 0 where
+  pub level : new.level ≡ old.level
+  pub left : new.left ≡ old.left
+  pub added : IsWaiting new x r
+  pub kept : (y : ℕ) (q : Request) → IsWaiting old y q → IsWaiting new y q
+  pub only : (y : ℕ) (q : Request) → IsWaiting new y q → IsWaiting old y q ⊎ ((y ≡ x) × (q ≡ r))
 
--- a number's code in a link: 0 for none
-abbrev pub link_to : Option ℕ → ℕ
-link_to None = 0
-link_to (Some h) = h + 1
+-- a level that is noted, as 2^32 - 1 less the level: it is still to come or has come, and has a bucket
+pub record IsNoted (later : List (List Request)) (level y : ℕ) : Type 0 where
+  pub no_sooner : level + y < 2 ^ 32
+  pub in_range : 2 ^ 32 ≤ length later + y
 
--- what the queue keeps: `newest` has the last request of each level to come, and each request leads to the next older one of its level
-pub record IsQueue (newest : BTreeMap ℕ ℕ) (requests : List Request) (level left : ℕ) : Type 0 where
-  pub newest_of : (k : ℕ) → k < length requests → level < (request_at requests k).level → (h : ℕ) × (get nat_cmp newest (request_at requests k).level ≡ Some h) × (k ≤ h)
-  pub newest_is : (x h : ℕ) → get nat_cmp newest x ≡ Some h → (h < length requests) × ((request_at requests h).level ≡ x) × (level < x)
-  pub older_of : (j k : ℕ) → j < k → k < length requests → (request_at requests j).level ≡ (request_at requests k).level → j < (request_at requests k).older
-  pub older_is : (k : ℕ) → k < length requests → (request_at requests k).older ≤ k
-  pub older_level : (k : ℕ) → k < length requests → 0 < (request_at requests k).older → (request_at requests ((request_at requests k).older - 1)).level ≡ (request_at requests k).level
-  pub levels : (k : ℕ) → k < length requests → (request_at requests k).level < 2 ^ 32
-  pub left_in : left ≤ length requests
-  pub left_level : 0 < left → (request_at requests (left - 1)).level ≡ level
-  pub few : length requests < 2 ^ 32
+-- what the queue keeps: each level with requests that is still to come is noted, and the least comes first
+pub record IsQueue (levels : List ℕ) (later : List (List Request)) (level : ℕ) : Type 0 where
+  pub ordered : IsHeap nat_cmp levels
+  pub noted : All (IsNoted later level) levels
+  pub listed : (x : ℕ) → 0 < length (bucket_at later x) → Contains levels (2 ^ 32 - 1 - x)
+  pub come : (x : ℕ) → x ≤ level → bucket_at later x ≡ []
+  pub few : length later ≤ 2 ^ 32

@@ -1,38 +1,44 @@
 // The graph: all pairs of two functions.
-ghost use Rattle.std.specs.Prelude.{◌≡◌, ◌<◌, ◌≤◌, ◌^◌, ◌↔◌, ℕ, List, length, Err, IfOk, IsTrue};
+ghost use Rattle.std.specs.Prelude.{◌≡◌, ◌<◌, ◌≤◌, ◌^◌, ◌↔◌, ℕ, List, [], length, map, Err, IfOk, IsTrue};
+ghost use Rattle.blic_graph.specs.Packing.{unpacked};
 ghost use Rattle.blic_graph.specs.Pairs.{IsGraph, PassesMost, pair_at};
 ghost use Rattle.blic_store.specs.Diagram.{IsRef};
 
-use crate::listing::all_pairs;
-use crate::pair::{Pair, Side};
+use crate::lister::Lister;
+use crate::packed::{Packed, unpack};
+use crate::pair::Side;
 use blic_store::{Ref, Store};
 use std::alloc::Global;
 use std::marker::Model;
 use std::vec::Vec;
+use thiserror::Error;
 
 /// Why the pairs were not listed.
-#[derive(Clone, Copy, Debug, PartialEq, Eq)]
+#[derive(Clone, Copy, Debug, PartialEq, Eq, Error)]
 pub enum GraphError {
     /// There are more pairs than were allowed.
+    #[error("there are more pairs than were allowed")]
     PairsFull,
     /// Memory ran out.
+    #[error("memory ran out")]
     NoMem,
 }
 
 /// The pairs of two functions of a store, each once, in rising order of level. A pair is what both
-/// functions become where the same topmost levels are fixed, neither constant.
+/// functions become where the same topmost levels are fixed, neither constant. A pair takes 20 bytes.
 #[derive(Drop)]
 pub struct Graph {
-    pairs: Vec<Pair>,
+    pairs: Vec<Packed>,
 }
 
 impl Model for Graph {
-    ghost use Rattle.std.specs.Prelude.{List, ◌<◌, ◌^◌, length};
+    ghost use Rattle.std.specs.Prelude.{List, map, ◌<◌, ◌^◌, length};
+    ghost use Rattle.blic_graph.specs.Packing.{unpacked};
     ghost use Rattle.blic_graph.specs.declared.pair.Pair.{Pair};
 
     ghost Value = { List Pair };
 
-    ghost view = { λ g. g.pairs.items };
+    ghost view = { λ g. map unpacked g.pairs.items };
 
     ghost invariant = { λ g. length g.pairs.items < 2 ^ 32 };
 }
@@ -58,14 +64,38 @@ impl Graph {
         ensures within { IfOk result (λ graph. length graph ≤ most) }
         ensures full { result ≡ Err GraphError.PairsFull → PassesMost store.now.nodes a b most }
     {
-        store.canonical_law();
-        if a.is_const() || b.is_const() {
-            return Ok(Graph {
-                pairs: Vec::new(alloc),
-            });
+        Lister::new(alloc)?.list(store, a, b, most)
+    }
+
+    /// The graph of two functions without pairs.
+    pub(crate) fn none(alloc: Global) -> Graph
+        ensures { result ≡ [] }
+    {
+        Graph {
+            pairs: Vec::new(alloc),
         }
-        let pairs = all_pairs(alloc, store, a, b, most)?;
-        Ok(Graph { pairs })
+    }
+
+    /// The graph of pairs.
+    pub(crate) fn of(pairs: Vec<Packed>) -> Graph
+        requires { length pairs.items < 2 ^ 32 }
+        ensures { result ≡ map unpacked pairs.items }
+    {
+        Graph { pairs }
+    }
+
+    /// The pairs' buffer.
+    pub(crate) fn into_buffer(self) -> Vec<Packed>
+        ensures { map unpacked result.items ≡ self }
+    {
+        self.pairs
+    }
+
+    /// Gives up room for pairs that the graph has no more.
+    pub fn shrink(&mut self)
+        ensures { self.new ≡ self.old }
+    {
+        self.pairs.shrink_to_fit();
     }
 
     /// The number of pairs.
@@ -101,7 +131,7 @@ impl Graph {
         ensures high { result.1 ≡ (pair_at self.now k).high }
     {
         let pair = &self.pairs[k as usize];
-        (pair.low, pair.high)
+        (unpack(pair.low), unpack(pair.high))
     }
 
     /// Whether pair `k` depends on no level above the given one.

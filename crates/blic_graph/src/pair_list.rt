@@ -1,27 +1,32 @@
 // A listing of pairs, level by level.
-ghost use Rattle.std.specs.Prelude.{◌≡◌, ◌+◌, ◌^◌, ◌<◌, ◌≤◌, ◌⊎◌, ℕ, Bool, [], ◌∷◌, ◌++◌, length, min, Err, IfErr, IfNone, IfOk, IfSome, OnOk, OnSome, slice_set};
-ghost use Rattle.blic_graph.specs.Listing.{AddsPair, Begins, Found, IsAsked, IsGoing, IsMissing, IsTaken, IsWithoutRoom, first_at, hash_of, second_at, side_of, with_side};
+ghost use Rattle.std.specs.Prelude.{◌≡◌, ◌+◌, ◌*◌, ◌^◌, ◌<◌, ◌≤◌, ◌⊎◌, ℕ, Bool, [], ◌∷◌, ◌++◌, cond, length, map, min, Err, IfErr, IfNone, IfOk, IfSome, OnOk, OnSome, slice_set};
+ghost use Rattle.blic_graph.specs.Listing.{AddsPair, Begins, Found, IsAsked, IsBegun, IsGoing, IsMissing, IsTaken, IsWithoutRoom, hash_of, with_side};
+ghost use Rattle.blic_graph.specs.Packing.{side_from};
 ghost use Rattle.blic_graph.specs.Pairs.{IsInner, PassesMost, StandsAt, level_of_pair, pair_at};
-ghost use Rattle.blic_graph.specs.Queue.{IsWaiting, Queue, Takes, request_at, turns_left};
+ghost use Rattle.blic_graph.specs.Queue.{IsWaiting, Queue, Takes, bit_of, pair_of, turns_left};
+ghost use Rattle.blic_graph.specs.declared.waiting.Request.{Request};
 ghost use Rattle.blic_store.specs.Canonical.{IsCanonical};
 ghost use Rattle.blic_store.specs.Diagram.{IsRef, cofactor};
 
-use crate::graph::GraphError;
-use crate::pair::{Pair, Side};
-use crate::waiting::Waiting;
+use crate::graph::{Graph, GraphError};
+use crate::packed::{Packed, ROOM, pack};
+use crate::pair::Side;
+use crate::waiting::{Request, Waiting};
 use blic_store::{Ref, Store, UniqueTable};
 use std::alloc::Global;
 use std::marker::Model;
+use std::mem;
 use std::vec::Vec;
 
 /// The pairs of two functions that were found so far, by level, at most `most`; and the sides that
 /// wait for their level. The pairs of one level are found when it has come.
 #[derive(Drop)]
 pub(crate) struct PairList {
+    alloc: Global,
     first: Ref,
     second: Ref,
     most: u64,
-    pairs: Vec<Pair>,
+    pairs: Vec<Packed>,
     /// The first pair of the level that has come.
     start: usize,
     /// The pairs from `start` on.
@@ -30,68 +35,95 @@ pub(crate) struct PairList {
 }
 
 impl Model for PairList {
+    ghost use Rattle.std.specs.Prelude.{map};
     ghost use Rattle.blic_graph.specs.Listing.{Found, IsEntered};
+    ghost use Rattle.blic_graph.specs.Packing.{unpacked};
 
     ghost Value = { Found };
 
-    ghost view = { λ l. record { first = l.first; second = l.second; most = l.most; pairs = l.pairs.items; start = l.start; queue = l.waiting } };
+    ghost view = { λ l. record { first = l.first; second = l.second; most = l.most; pairs = map unpacked l.pairs.items; start = l.start; queue = l.waiting } };
 
-    ghost invariant = { λ l. IsEntered l.pairs.items l.start l.table };
+    ghost invariant = { λ l. IsEntered (map unpacked l.pairs.items) l.start l.table };
 }
 
 impl PairList {
-    /// A listing whose level has come, without pairs.
-    pub(crate) fn new(
-        alloc: Global,
-        first: Ref,
-        second: Ref,
-        most: u64,
-        level: u32,
-    ) -> Result<PairList, GraphError>
-        ensures empty { IfOk result (λ list. list ≡ record { first = first; second = second; most = most; pairs = []; start = 0; queue = record { requests = []; level = level; left = 0 } }) }
+    /// A listing of no pairs, with no request.
+    pub(crate) fn new(alloc: Global) -> Result<PairList, GraphError>
         ensures no_mem { IfErr result (λ e. e ≡ GraphError.NoMem) }
     {
         let Ok(table) = UniqueTable::new(alloc) else {
             return Err(GraphError::NoMem);
         };
         Ok(PairList {
-            first,
-            second,
-            most,
+            alloc,
+            first: Ref::FALSE,
+            second: Ref::FALSE,
+            most: 0,
             pairs: Vec::new(alloc),
             start: 0,
             table,
-            waiting: Waiting::new(alloc, level),
+            waiting: Waiting::new(alloc),
         })
     }
 
-    /// The pairs.
-    pub(crate) fn into_pairs(self) -> Vec<Pair>
-        ensures { result.items ≡ self.pairs }
+    /// The allocator.
+    pub(crate) fn allocator(&self) -> Global {
+        self.alloc
+    }
+
+    /// Begins with a level that has come, without pairs and without requests.
+    pub(crate) fn begin(&mut self, first: Ref, second: Ref, most: u64, level: u32)
+        ensures { IsBegun self.new first second most level }
     {
-        self.pairs
+        self.first = first;
+        self.second = second;
+        self.most = most;
+        self.pairs.clear();
+        self.start = 0;
+        self.table.clear();
+        self.waiting.begin(level);
+    }
+
+    /// The pairs, which leave.
+    pub(crate) fn take_pairs(&mut self) -> Graph
+        ensures { result ≡ self.old.pairs }
+    {
+        self.start = 0;
+        self.table.clear();
+        let none = Vec::new(self.alloc);
+        Graph::of(mem::replace(&mut self.pairs, none))
+    }
+
+    /// Takes the buffer of a graph, where no pair is listed.
+    pub(crate) fn reuse(&mut self, graph: Graph) {
+        self.start = 0;
+        self.table.clear();
+        self.pairs = graph.into_buffer();
+        self.pairs.clear();
     }
 
     /// Takes the next request, and begins its level, if that has not come before.
-    pub(crate) fn next(&mut self) -> Option<u32>
+    pub(crate) fn next(&mut self) -> Option<Request>
         ensures queue { IfSome result (Takes self.old.queue self.new.queue) }
         ensures falls { IfSome result (λ _. turns_left self.new.queue < turns_left self.old.queue) }
         ensures begins { OnSome result (Begins self.old self.new) }
-        ensures none { IfNone result ((k : ℕ) → IsWaiting self.old.queue k → ⊥) }
+        ensures none { IfNone result ((x : ℕ) (r : Request) → IsWaiting self.old.queue x r → ⊥) }
         ensures pairs { self.new.pairs ≡ self.old.pairs }
     {
         let level = self.waiting.level();
-        let k = self.waiting.take()?;
+        let Some(request) = self.waiting.take(self.alloc) else {
+            return None;
+        };
         if level < self.waiting.level() {
             self.start = self.pairs.len();
             self.table.clear();
         }
-        Some(k)
+        Some(request)
     }
 
-    /// Finds the pair that request `k` waits for, which was taken, and names it there.
-    pub(crate) fn answer(&mut self, store: &Store, k: u32) -> Result<(), GraphError>
-        requires taken { IsTaken store.now.nodes self.old k }
+    /// Finds the pair that a request waits for, which was taken, and names it in its side.
+    pub(crate) fn answer(&mut self, store: &Store, request: Request) -> Result<(), GraphError>
+        requires taken { IsTaken store.now.nodes self.old request }
         requires few { self.old.most < 2 ^ 32 }
         ensures going { OnOk result (IsGoing store.now.nodes self.new) }
         ensures operands { OnOk result (self.new ≡ record self.old { pairs = self.new.pairs; queue = self.new.queue }) }
@@ -99,12 +131,8 @@ impl PairList {
         ensures full { result ≡ Err GraphError.PairsFull → PassesMost store.now.nodes self.old.first self.old.second self.old.most }
     {
         store.canonical_law();
-        let request = self.waiting.request(k);
-        let Side::Done(first, second) = self.side(request.pair, request.bit) else {
-            unreachable!()
-        };
-        let number = self.number(store, first, second)?;
-        self.set_side(request.pair, request.bit, Side::Pair(number));
+        let number = self.number(store, request.first, request.second)?;
+        self.set_side(request.pair(), request.bit(), number);
         Ok(())
     }
 
@@ -116,7 +144,7 @@ impl PairList {
         requires level { self.old.queue.level ≡ level_of_pair store.now.nodes first second }
         requires missing { IsMissing self.old.pairs self.old.start first second }
         requires few { self.old.most < 2 ^ 32 }
-        ensures number { IfOk result (λ n. n ≡ length self.old.pairs) }
+        ensures number { IfOk result (λ n. (n ≡ length self.old.pairs) × (n < 536870912)) }
         ensures pairs { OnOk result (AddsPair store.now.nodes self.old self.new first second) }
         ensures full { result ≡ Err GraphError.PairsFull → self.old.most ≤ length self.old.pairs }
     {
@@ -124,13 +152,17 @@ impl PairList {
         if n as u64 >= self.most {
             return Err(GraphError::PairsFull);
         }
+        if n >= ROOM as usize {
+            return Err(GraphError::NoMem);
+        }
         let low = self.ask(store, n as u32, first, second, false)?;
         let high = self.ask(store, n as u32, first, second, true)?;
         self.push(first, second, low, high)?;
         Ok(n as u32)
     }
 
-    // What a pair of the level that has come becomes at the bit, which waits where it is a pair.
+    // The code of what a pair of the level that has come becomes at the bit, which waits where it is
+    // a pair.
     fn ask(
         &mut self,
         store: &Store,
@@ -138,12 +170,12 @@ impl PairList {
         first: Ref,
         second: Ref,
         bit: bool,
-    ) -> Result<Side, GraphError>
+    ) -> Result<u32, GraphError>
+        requires number { number < 536870912 }
         requires first_inner { IsInner store.now.nodes first }
         requires second_inner { IsInner store.now.nodes second }
         requires level { self.old.queue.level ≡ level_of_pair store.now.nodes first second }
-        ensures side { IfOk result (λ side. side ≡ Side.Done (cofactor store.now.nodes first self.old.queue.level bit) (cofactor store.now.nodes second self.old.queue.level bit)) }
-        ensures asked { OnOk result (IsAsked store.now.nodes self.old.queue self.new.queue number (cofactor store.now.nodes first self.old.queue.level bit) (cofactor store.now.nodes second self.old.queue.level bit) bit) }
+        ensures asked { IfOk result (λ code. IsAsked store.now.nodes self.old.queue self.new.queue (2 * number + cond bit 1 0) (cofactor store.now.nodes first self.old.queue.level bit) (cofactor store.now.nodes second self.old.queue.level bit) (side_from code)) }
         ensures same { OnOk result (self.new ≡ record self.old { queue = self.new.queue }) }
         ensures turn { OnOk result (turns_left self.new.queue ≡ turns_left self.old.queue) }
         ensures no_mem { IfErr result (λ e. e ≡ GraphError.NoMem) }
@@ -152,19 +184,28 @@ impl PairList {
         let first = store.cofactor(first, self.waiting.level(), bit);
         let second = store.cofactor(second, self.waiting.level(), bit);
         if first.is_const() || second.is_const() {
-            return Ok(Side::Done(first, second));
+            return match pack(&Side::Done(first, second)) {
+                Some(code) => Ok(code),
+                None => Err(GraphError::NoMem),
+            };
         }
         let level = store.level(first).min(store.level(second));
-        match self.waiting.ask(number, bit, level) {
-            Ok(()) => Ok(Side::Done(first, second)),
+        let place = 2 * number + bit as u32;
+        let request = Request {
+            first,
+            second,
+            place,
+        };
+        match self.waiting.ask(self.alloc, level, request) {
+            Ok(()) => Ok(0),
             Err(_) => Err(GraphError::NoMem),
         }
     }
 
     // Appends a pair of the level that has come, and enters it in the table.
-    fn push(&mut self, first: Ref, second: Ref, low: Side, high: Side) -> Result<(), GraphError>
-        requires { length self.old.pairs + 1 < 2 ^ 32 }
-        ensures ok { OnOk result (self.new ≡ record self.old { pairs = self.old.pairs ++ record { level = self.old.queue.level; first = first; second = second; low = low; high = high } ∷ [] }) }
+    fn push(&mut self, first: Ref, second: Ref, low: u32, high: u32) -> Result<(), GraphError>
+        requires { length self.old.pairs < 536870912 }
+        ensures ok { OnOk result (self.new ≡ record self.old { pairs = self.old.pairs ++ record { level = self.old.queue.level; first = first; second = second; low = side_from low; high = side_from high } ∷ [] }) }
         ensures no_mem { IfErr result (λ e. e ≡ GraphError.NoMem) }
     {
         if self.pairs.reserve(1).is_err() {
@@ -173,7 +214,7 @@ impl PairList {
         if self.table.enter(hash(first, second)).is_err() {
             return Err(GraphError::NoMem);
         }
-        self.pairs.push_reserved(Pair {
+        self.pairs.push_reserved(Packed {
             level: self.waiting.level(),
             first,
             second,
@@ -191,6 +232,7 @@ impl PairList {
         requires level { self.old.queue.level ≡ level_of_pair store.now.nodes first second }
         requires few { self.old.most < 2 ^ 32 }
         ensures number { IfOk result (λ n. StandsAt self.new.pairs n first second) }
+        ensures room { IfOk result (λ n. n < 536870912) }
         ensures pairs { OnOk result ((self.new ≡ self.old) ⊎ AddsPair store.now.nodes self.old self.new first second) }
         ensures full { result ≡ Err GraphError.PairsFull → IsWithoutRoom self.old first second }
     {
@@ -200,30 +242,23 @@ impl PairList {
         }
     }
 
-    // The side of pair k at the bit.
-    fn side(&self, k: u32, bit: bool) -> Side
-        requires { k < length self.now.pairs }
-        ensures { result ≡ side_of (pair_at self.now.pairs k) bit }
-    {
-        let pair = &self.pairs[k as usize];
-        if bit { pair.high } else { pair.low }
-    }
-
-    // Sets the side of pair k at the bit.
-    fn set_side(&mut self, k: u32, bit: bool, side: Side)
-        requires { k < length self.old.pairs }
-        ensures { self.new ≡ record self.old { pairs = slice_set self.old.pairs k (with_side (pair_at self.old.pairs k) bit side) } }
+    // Lets the side of pair k at the bit be pair n.
+    fn set_side(&mut self, k: u32, bit: bool, n: u32)
+        requires k { k < length self.old.pairs }
+        requires n { n < 536870912 }
+        ensures { self.new ≡ record self.old { pairs = slice_set self.old.pairs k (with_side (pair_at self.old.pairs k) bit (Side.Pair n)) } }
     {
         if bit {
-            self.pairs[k as usize].high = side;
+            self.pairs[k as usize].high = n;
         } else {
-            self.pairs[k as usize].low = side;
+            self.pairs[k as usize].low = n;
         }
     }
 
     // The number of the pair of the level, if it was found.
     fn find(&self, first: Ref, second: Ref) -> Option<u32>
         ensures some { IfSome result (λ k. StandsAt self.now.pairs k first second) }
+        ensures room { IfSome result (λ k. k < 536870912) }
         ensures none { IfNone result (IsMissing self.now.pairs self.now.start first second) }
     {
         let mut candidate = self.table.newest(hash(first, second));

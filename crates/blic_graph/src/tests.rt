@@ -154,3 +154,37 @@ fn pairs_found_out_of_order_are_listed_by_level(rt: HostRuntime) -> Result<(), F
     );
     Ok(())
 }
+
+#[test]
+fn a_lister_that_was_full_lists_the_next_two(rt: HostRuntime) -> Result<(), Fail> {
+    let mut store = Store::new(rt.alloc(), 10)?;
+    let deep = made(&mut store, 9, Ref::FALSE, Ref::TRUE)?;
+    let late = made(&mut store, 5, Ref::FALSE, deep)?;
+    let early = made(&mut store, 3, Ref::TRUE, late)?;
+    let top = made(&mut store, 0, late, early)?;
+    if !store.holds(top) || !store.holds(early) || !store.holds(late) {
+        return Err("a ref of another store")?;
+    }
+    let mut lister = Lister::new(rt.alloc())?;
+    for (first, most, listed) in [
+        (top, 3, None),
+        (early, 3, Some(3)),
+        (late, 1, None),
+        (Ref::TRUE, 0, Some(0)),
+        (top, 4, Some(4)),
+    ] {
+        if !store.holds(first) {
+            return Err("a ref of another store")?;
+        }
+        let count = match lister.list(&store, first, late, most) {
+            Ok(graph) => {
+                let count = graph.len();
+                lister.reuse(graph);
+                Some(count)
+            }
+            Err(_) => None,
+        };
+        assert_eq!(rt; count, listed, "{first:?} {most}");
+    }
+    Ok(())
+}

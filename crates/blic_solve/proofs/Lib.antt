@@ -1,5 +1,4 @@
 mod Adding
-mod Answer
 mod DistinctCounts
 mod Holds
 mod Levels
@@ -7,6 +6,8 @@ mod Members
 mod NodeSteps
 mod OperandPairs
 mod Pushed
+mod Rooting
 mod Sizes
 mod Subfunctions
 mod Tables
+mod TrueRoot

@@ -8,22 +8,26 @@ ghost use Rattle.blic_solve.specs.Plan.{Solved, IsPlan, IsWithin, IsCause, root_
 ghost use Rattle.blic_store.specs.Diagram.{decision_at};
 ghost use Rattle.blic_solve.specs.Progress.{IsSolvedUpTo};
 
-use crate::step::{Step, StepError, count, solve_node};
+use crate::step::{Step, StepError, Tools, count, solve_node};
 use blic_basic::NoMem;
 use blic_graph::{Graph, growth_law};
 use blic_model::Circuit;
 use blic_store::{Ref, Store};
 use std::alloc::Global;
 use std::marker::Model;
+use thiserror::Error;
 
 /// Why a circuit isn't solved.
-#[derive(Clone, Copy, Debug, PartialEq, Eq)]
+#[derive(Clone, Copy, Debug, PartialEq, Eq, Error)]
 pub enum SolveError {
     /// The first node at which a limit is passed passes that of pairs.
+    #[error("node {node} passes the limit of pairs")]
     PairLimit { node: u32 },
     /// The first node at which a limit is passed passes that of nodes alone.
+    #[error("node {node} passes the limit of decisions")]
     NodeLimit { node: u32 },
     /// Memory ran out.
+    #[error("memory ran out")]
     NoMem,
 }
 
@@ -69,9 +73,12 @@ impl Plan {
         let Ok(mut plan) = Plan::empty(alloc, nodes) else {
             return Err(SolveError::NoMem);
         };
+        let Ok(mut tools) = Tools::new(alloc) else {
+            return Err(SolveError::NoMem);
+        };
         let mut listed = 0;
         for k in 0..circuit.nodes() {
-            match plan.add(alloc, circuit, k, pairs, listed) {
+            match plan.add(&mut tools, circuit, k, pairs, listed) {
                 Ok(all) => listed = all,
                 Err(error) => return Err(error),
             }
@@ -153,7 +160,7 @@ impl Plan {
     // Solves node k, the next one, where `listed` pairs of `pairs` are listed, and tells how many are then.
     fn add(
         &mut self,
-        alloc: Global,
+        tools: &mut Tools,
         circuit: &Circuit,
         k: u32,
         pairs: u32,
@@ -166,7 +173,7 @@ impl Plan {
     {
         circuit.is_within_limits();
         match solve_node(
-            alloc,
+            tools,
             &mut self.store,
             &self.roots,
             circuit.node(k),

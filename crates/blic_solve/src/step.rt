@@ -9,7 +9,8 @@ ghost use Rattle.blic_solve.specs.Plan.{pair_count};
 ghost use Rattle.blic_solve.specs.Step.{IsStep, IsStepOf, PassesNodes, PassesNodesOf, PassesPairs};
 
 use blic_apply::{Op, combine, fix, negate};
-use blic_graph::{Graph, GraphError};
+use blic_basic::NoMem;
+use blic_graph::{Graph, GraphError, Lister};
 use blic_model::Node;
 use blic_store::{Ref, Store, StoreError};
 use std::alloc::Global;
@@ -23,6 +24,30 @@ pub enum StepError {
     NodesFull,
     /// Memory ran out.
     NoMem,
+}
+
+/// What serves from node to node, and says nothing of the next one.
+#[derive(Drop)]
+pub struct Tools {
+    alloc: Global,
+    lister: Lister,
+}
+
+impl Tools {
+    /// Tools.
+    pub fn new(alloc: Global) -> Result<Tools, NoMem> {
+        match Lister::new(alloc) {
+            Ok(lister) => Ok(Tools { alloc, lister }),
+            Err(_) => Err(NoMem),
+        }
+    }
+
+    /// Takes the memory of a graph that nobody reads.
+    pub fn reuse(&mut self, graph: Option<Graph>) {
+        if let Some(graph) = graph {
+            self.lister.reuse(graph);
+        }
+    }
 }
 
 /// What a node adds: the ref of its function and, where it is binary, the pairs of its operands.
@@ -54,7 +79,7 @@ pub fn count(graph: &Option<Graph>) -> u32
 /// The node's function, made of those of its children, and the pairs of its operands, of which at
 /// most `most` are allowed.
 pub fn solve_node(
-    alloc: Global,
+    tools: &mut Tools,
     store: &mut Store,
     roots: &Vec<Ref>,
     node: Node,
@@ -70,12 +95,12 @@ pub fn solve_node(
     match node {
         Node::Const(bit) => Ok(constant(bit)),
         Node::Var(level) => single(variable(store, level)),
-        Node::Not(child) => single(negate(alloc, store, roots[child as usize])),
+        Node::Not(child) => single(negate(tools.alloc, store, roots[child as usize])),
         Node::Fix { level, bit, child } => {
-            single(fix(alloc, store, roots[child as usize], level, bit))
+            single(fix(tools.alloc, store, roots[child as usize], level, bit))
         }
         Node::And(a, b) => binary(
-            alloc,
+            tools,
             store,
             Op::And,
             roots[a as usize],
@@ -83,7 +108,7 @@ pub fn solve_node(
             most,
         ),
         Node::Or(a, b) => binary(
-            alloc,
+            tools,
             store,
             Op::Or,
             roots[a as usize],
@@ -126,7 +151,7 @@ fn single(made: Result<Ref, StoreError>) -> Result<Step, StepError>
 
 // The step of a binary node.
 fn binary(
-    alloc: Global,
+    tools: &mut Tools,
     store: &mut Store,
     op: Op,
     a: Ref,
@@ -139,12 +164,12 @@ fn binary(
     ensures pairs { result ≡ Err StepError.PairsFull → PassesMost store.old.nodes a b most }
     ensures nodes { result ≡ Err StepError.NodesFull → PassesNodesOf (combined op (function store.old.nodes a) (function store.old.nodes b)) (λ g. IsSomeAnd g (IsGraph store.old.nodes a b)) most store.old }
 {
-    let graph = match Graph::list(alloc, &*store, a, b, u64::from(most)) {
+    let graph = match tools.lister.list(&*store, a, b, u64::from(most)) {
         Ok(graph) => graph,
         Err(GraphError::PairsFull) => return Err(StepError::PairsFull),
         Err(GraphError::NoMem) => return Err(StepError::NoMem),
     };
-    match combine(alloc, store, &graph, op, a, b) {
+    match combine(tools.alloc, store, &graph, op, a, b) {
         Ok(root) => Ok(Step {
             root,
             graph: Some(graph),

@@ -53,6 +53,16 @@ fn quantified(alloc: Global, inner: Node, outer: Node) -> Result<Circuit, Fail> 
     )
 }
 
+// The node at which the limit of decisions is passed, and that of pairs.
+fn told(error: Option<SolveError>) -> Result<(Option<u32>, Option<u32>), Fail> {
+    match error {
+        None => Ok((None, None)),
+        Some(SolveError::NodeLimit { node }) => Ok((Some(node), None)),
+        Some(SolveError::PairLimit { node }) => Ok((None, Some(node))),
+        Some(SolveError::NoMem) => Err("no memory")?,
+    }
+}
+
 #[test]
 fn the_first_node_that_passes_a_limit_is_told(rt: HostRuntime) -> Result<(), Fail> {
     let circuit = quantified(rt.alloc(), Node::Or(7, 8), Node::And(10, 11))?;
@@ -64,21 +74,23 @@ fn the_first_node_that_passes_a_limit_is_told(rt: HostRuntime) -> Result<(), Fai
         (0, 0, Some(0), None),
         (3, 0, None, Some(2)),
     ] {
-        let (at_node, at_pair) = match Plan::solve(rt.alloc(), &circuit, nodes, pairs) {
-            Ok(_) => (None, None),
-            Err(SolveError::NodeLimit { node }) => (Some(node), None),
-            Err(SolveError::PairLimit { node }) => (None, Some(node)),
-            Err(SolveError::NoMem) => return Err("no memory")?,
+        let plan = match Plan::solve(rt.alloc(), &circuit, nodes, pairs) {
+            Ok(_) => None,
+            Err(error) => Some(error),
         };
-        assert_eq!(rt; at_node, node_limit, "{nodes} {pairs}");
-        assert_eq!(rt; at_pair, pair_limit, "{nodes} {pairs}");
+        assert_eq!(rt; told(plan)?, (node_limit, pair_limit), "{nodes} {pairs}");
+        let alone = match answer(rt.alloc(), &circuit, nodes, pairs) {
+            Ok(_) => None,
+            Err(error) => Some(error),
+        };
+        assert_eq!(rt; told(alone)?, (node_limit, pair_limit), "{nodes} {pairs}");
     }
     Ok(())
 }
 
 #[test]
 fn the_root_is_answered(rt: HostRuntime) -> Result<(), Fail> {
-    for (inner, outer, answer) in [
+    for (inner, outer, truth) in [
         (Node::Or(7, 8), Node::And(10, 11), true),
         (Node::Or(7, 8), Node::Or(10, 11), true),
         (Node::And(7, 8), Node::And(10, 11), false),
@@ -86,7 +98,12 @@ fn the_root_is_answered(rt: HostRuntime) -> Result<(), Fail> {
     ] {
         let circuit = quantified(rt.alloc(), inner, outer)?;
         let plan = Plan::solve(rt.alloc(), &circuit, 7, 4)?;
-        assert_eq!(rt; plan.answer(), answer, "{inner:?} {outer:?}");
+        assert_eq!(rt; plan.answer(), truth, "{inner:?} {outer:?}");
+        assert_eq!(rt;
+            answer(rt.alloc(), &circuit, 7, 4)?,
+            truth,
+            "{inner:?} {outer:?}"
+        );
     }
     Ok(())
 }

@@ -1,10 +1,11 @@
-use Rattle.std.proofs.Common.{arith, ◌≡◌, ◌+◌, ap, sym, ◌∙◌, subst, drop}
+use Rattle.std.proofs.Common.{arith, ◌≡◌, ◌+◌, ap, sym, ◌∙◌, subst, drop, map}
 use Rattle.std.specs.Prelude.{Some}
-use Rattle.std.proofs.lemmas.List.{get_or_read, length-drop}
+use Rattle.std.proofs.lemmas.List.{get_or-map, get_or_read, length-drop, length-map}
 use Rattle.blic_graph.specs.declared.pair.Pair.{Pair}
 use Rattle.blic_graph.specs.declared.pair.Side.TheVariants as Side
 use Rattle.blic_graph.specs.Pairs.{StandsAt, pair_at}
 use Rattle.blic_graph.specs.Listing.{Found}
+use Rattle.blic_graph.specs.Packing.{packed_at, unpacked}
 use Rattle.blic_graph.proofs.Candidates.{IsCandidate, candidate_newest, candidate_older, missing_at_end, pair-drop, unequal_numbers}
 use Rattle.blic_graph.proofs.pair_list.PairList.find.Goals.{else-eq-via-then-eq+else-eq-2, else-eq-via-else-eq}
 use Rattle.blic_graph.proofs.pair_list.PairList.find.Goals as goal
@@ -12,12 +13,13 @@ use Rattle.blic_graph.proofs.pair_list.PairList.find.Goals as goal
 pub loop-candidate-init : goal.loop-candidate-init
 loop-candidate-init c =
     subst (λ (z : Found). IsCandidate (drop z.start z.pairs) c.args.first c.args.second c.newest-candidate.result) c.self.view_is
-    (candidate_newest (drop c.self.inside.start c.self.inside.pairs.items) c.self.inside.table c.args.first c.args.second c.hash.result c.newest-candidate.result
+    (candidate_newest (drop c.self.inside.start (map unpacked c.self.inside.pairs.items)) c.self.inside.table c.args.first c.args.second c.hash.result c.newest-candidate.result
     c.self.invariant.entered c.hash.ensures c.newest-candidate.ensures.some c.newest-candidate.ensures.none)
 
 pub loop-candidate-preserved : goal.loop-candidate-preserved
 loop-candidate-preserved c =
-    let inside = c.self.inside.pairs.items in
+    let items = c.self.inside.pairs.items in
+    let inside = map unpacked items in
     let start = c.self.inside.start in
     let r = c.args.first in
     let s = c.args.second in
@@ -25,9 +27,11 @@ loop-candidate-preserved c =
     subst (λ (z : Found). IsCandidate (drop z.start z.pairs) r s (Some c.in-Some.k)) (sym c.self.view_is) (subst (IsCandidate (drop c.args.self.now.start c.args.self.now.pairs) r s) c.in-Some.is c.loop-candidate.invariant) in
     let l = here.in_range in
     let len = length-drop start inside in
-    let read : c.index-pair.result.now ≡ pair_at inside (start + c.in-Some.k) = get_or_read inside (start + c.in-Some.k) c.index-pair.result.now (omega arith) c.index-pair.ensures (record { level = 0; first = 0; second = 0; low = Side.Done 0 0; high = Side.Done 0 0 }) in
+    let same_len = length-map items unpacked in
+    let read : c.index-pair.result.now ≡ packed_at items (start + c.in-Some.k) = get_or_read items (start + c.in-Some.k) c.index-pair.result.now (omega arith) c.index-pair.ensures (record { level = 0; first = 0; second = 0; low = 0; high = 0 }) in
+    let whole : pair_at inside (start + c.in-Some.k) ≡ unpacked (packed_at items (start + c.in-Some.k)) = get_or-map unpacked items (start + c.in-Some.k) (record { level = 0; first = 0; second = 0; low = 0; high = 0 }) (record { level = 0; first = 0; second = 0; low = Side.Done 0 0; high = Side.Done 0 0 }) (omega arith) in
     let dropped : pair_at (drop start inside) c.in-Some.k ≡ pair_at inside (start + c.in-Some.k) = pair-drop inside start c.in-Some.k in
-    let same : c.index-pair.result.now ≡ pair_at (drop start inside) c.in-Some.k = read ∙ sym dropped in
+    let same : unpacked c.index-pair.result.now ≡ pair_at (drop start inside) c.in-Some.k = ap unpacked read ∙ (sym whole ∙ sym dropped) in
     let other : StandsAt (drop start inside) c.in-Some.k r s → ⊥ = λ x. elim c.else-eq.branch [
       | else-eq-via-then-eq+else-eq-2 w ↦ unequal_numbers c.index-pair.result.now.second s (sym w.eq-then-eq.ensures ∙ w.if-eq-2.false) (ap (λ (z : Pair). z.second) same ∙ x.second)
       | else-eq-via-else-eq w ↦ unequal_numbers c.index-pair.result.now.first r (sym c.eq.ensures ∙ w.if-eq.false) (ap (λ (z : Pair). z.first) same ∙ x.first)

@@ -3,7 +3,7 @@ use Rattle.std.proofs.Common.{arith, ◌≡◌, ◌∙◌, ◌-◌, sym, ap, sub
 use Rattle.std.proofs.lemmas.List.{get_or_default}
 use Rattle.blic_solve.specs.Plan.{IsPlan}
 use Rattle.blic_solve.specs.contracts.plan.Plan.{the_view}
-use Rattle.blic_solve.proofs.Answer.{answer_is}
+use Rattle.blic_solve.proofs.TrueRoot.{answer_is}
 use Rattle.blic_solve.proofs.plan.Plan.answer.Goals as goal
 
 pub returns-then-n-gt0 : goal.returns-then-n-gt0

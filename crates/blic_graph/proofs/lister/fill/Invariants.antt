@@ -1,7 +1,7 @@
 use Rattle.std.proofs.Common.{◌≡◌}
 use Rattle.blic_graph.specs.Listing.{IsGoing}
 use Rattle.blic_graph.specs.Queue.{turns_left}
-use Rattle.blic_graph.proofs.listing.all_pairs.Given as goal
+use Rattle.blic_graph.proofs.lister.fill.Given as goal
 
 abbrev pub invariant-requests : goal.invariant-requests
 invariant-requests l = record {
