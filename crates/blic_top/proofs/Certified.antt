@@ -1,61 +1,77 @@
--- From what a conversation was to what `certify` may say.
-use Rattle.std.proofs.Common.{ℕ, ◌≡◌, ◌∙◌, ap, subst, List, [], take, cond, Bool, true, false, inl, inr}
+-- From what a conversation was to what certifying may say.
+use Rattle.std.proofs.Common.{ℕ, ◌≡◌, ◌∙◌, refl, sym, ap, subst, List, [], cond, Bool, true, false, inl, inr}
 use Rattle.std.specs.Prelude.{Option, Some, None}
 use Rattle.std.specs.Io.KnownBytes.{append_known}
 use Rattle.std.proofs.lemmas.Bool.{cases_Bool}
 use Rattle.sha2.specs.Sha256.{sha256}
 use Rattle.blic_qdimacs.specs.Text.{canonical_text}
-use Rattle.blic_top.specs.DrawRun.{Source, draw_from}
 use Rattle.blic_model.specs.Circuit.{OrderedCircuit}
 use Rattle.blic_model.specs.Formula.{PrenexFormula}
-use Rattle.blic_model.specs.Limits.{IsFormula}
-use Rattle.blic_model.specs.Truth.{truth}
-use Rattle.blic_model.specs.Building.{circuit_of}
-use Rattle.blic_model.specs.Laws.{RootValueIsTruth}
-use Rattle.blic_messages.specs.declared.ask.Hello.{Hello as HelloOf}
-use Rattle.blic_verifier.specs.Conversation.{Ending}
-use Rattle.blic_verifier.specs.Conversation.{Certified as CertifiedEnd}
-use Rattle.blic_top.specs.World.{World, IsSeed}
-use Rattle.blic_top.specs.Wire.{IsBegun, IsConversation, hello_of}
-use Rattle.blic_top.specs.Certifying.{Manner, CanCertify, HasConversed, IsConversing, IsWorthTo, ending_of, source_of}
-use Rattle.blic_top.specs.Deciding.{IsSeeded}
-use Rattle.blic_top.specs.Means.{talk_lines}
-use Rattle.blic_top.specs.Printing.{talk_text}
-use Rattle.blic_top.specs.Talking.{IsTalk, lines_of}
-use Rattle.blic_top.specs.Worth.{IsWorth}
+use Rattle.blic_model.specs.Value.{RootIs}
+use Rattle.blic_verifier.specs.Accepting.{ShowsIn}
+use Rattle.blic_verifier.specs.Certified.{CertifiedIsWorth}
+use Rattle.blic_verifier.specs.Verdict.{Talk}
+use Rattle.blic_verifier.specs.Conversation.{Instance, Ended, beginning}
+use Rattle.blic_verifier.specs.declared.ending.Ending.{Ending}
+use Rattle.blic_verifier.specs.declared.ending.Ending.TheVariants.{Certified as CertifiedEnd}
+use Rattle.blic_draw.specs.DrawRun.{Source, draw_from}
+use Rattle.blic_top.specs.Problem.{Problem, hello_by, instance_of, problem_of}
+use Rattle.blic_top.specs.Deed.{Told, Deed, nothing, Shows, TookSeed, IsSeedOf, IsDeed}
+use Rattle.blic_top.specs.Jobs.{SolveLimits, Job, Made, certify_job}
+use Rattle.blic_top.specs.Stops.{CanStart}
+use Rattle.blic_top.specs.Ends.{IsPrintingOf, IsTally, Says, ending_of}
+use Rattle.blic_top.specs.Wire.{IsConversation, IsStepping, Leads, spoken}
+use Rattle.blic_print.specs.Printing.{talk_text}
+use Rattle.blic_top.specs.Deciding.{Decides, IsSeeded}
+use Rattle.blic_top.specs.Talking.{IsTalk, instance_by}
 use Rattle.blic_top.specs.declared.conversation.Conversation.{Conversation}
 use Rattle.blic_top.specs.declared.conversation.Talked.TheVariants.{Certified, Failed, Unprinted}
+use Rattle.blic_top.specs.declared.outcome.Answer.{Answer}
+use Rattle.blic_top.specs.declared.outcome.Tally.{Tally}
 use Rattle.blic_top.specs.declared.outcome.Failure.{Failure}
 use Rattle.blic_top.specs.declared.outcome.Failure.TheVariants.{Rejected, WrongKind, WrongCount, NotFrame}
-use Rattle.blic_top.proofs.Exchanging.{element_drawn}
-use Rattle.blic_top.proofs.Honesty.{HasLaws, honest_end, honest_truth}
+use Rattle.blic_top.specs.declared.outcome.Stop.TheVariants.{NoSeed}
+use Rattle.blic_top.specs.declared.outcome.End.TheVariants.{Certified as CertifiedSo, Failed as FailedSo}
+use Rattle.blic_top.specs.declared.outcome.Outcome.{Outcome}
+use Rattle.blic_top.specs.declared.outcome.Outcome.TheVariants.{Stopped, Done}
+use Rattle.blic_draw.proofs.Elements.{element_drawn}
+use Rattle.blic_top.proofs.Honesty.{HasLaws, all_readings, honest_end, honest_truth}
+use Rattle.blic_top.proofs.Onward.{nothing_more, shows_none}
+use Rattle.blic_top.proofs.Problems.{problem_hello}
 
--- the hello of the formula
-pub hello_is : (f : PrenexFormula) (digest : List ℕ) → digest ≡ sha256 (canonical_text f) → record { wire = 1; circuit = 1; order = 0; digest = digest } ≡ hello_of f
-hello_is f digest e = λ i. record { wire = 1; circuit = 1; order = 0; digest = e i }
+-- ---- a run that has done nothing outside
 
--- the seed that was had
-pub seed_is : (given : Option (List ℕ)) (world : World) (seed : List ℕ) → IsSeeded given world.seeds world.seeds_after (Some seed) → IsSeed given world seed
-seed_is (Some s) world seed h = h
-seed_is None world seed h = h
+pub quiet : (seeds : Option (ℕ → Option (List ℕ))) (seen : Option (List (List ℕ))) → IsDeed seeds seeds seen seen nothing
+quiet seeds seen = record { seed = refl; frames = shows_none seen }
 
--- the conversation was about the formula
-about : (f : PrenexFormula) (m : Manner) (world : World) (seed : List ℕ) (c : OrderedCircuit) (h : HelloOf) (frames : List (List ℕ)) (e : Ending) → c ≡ circuit_of f → h ≡ hello_of f
-    → IsSeed m.seed world seed → IsConversation c (draw_from (source_of m seed)) world.alters h frames e → HasConversed f m world frames e
-about f m world seed c h frames e circuit hello is_seed conversed =
-    (seed, is_seed, subst (λ z. IsConversation (circuit_of f) (draw_from (source_of m seed)) world.alters z frames e) hello (subst (λ z. IsConversation z (draw_from (source_of m seed)) world.alters h frames e) circuit conversed))
+pub decides_quietly : (job : Job) (told : Told) (seeds : Option (ℕ → Option (List ℕ))) (seen : Option (List (List ℕ))) (held : Option (List ℕ)) (outcome : Outcome) → Says job told nothing outcome
+    → (deed : Deed) × IsDeed seeds seeds seen seen deed × Decides job told deed held held (Some outcome)
+decides_quietly job told seeds seen held outcome says = (nothing, quiet seeds seen, (says, nothing_more held))
 
--- an unaltered one ends with the truth
-ends_true : (f : PrenexFormula) → IsFormula f → RootValueIsTruth → HasLaws (circuit_of f) → (source : Source) (frames : List (List ℕ)) (e : Ending)
-    → IsConversation (circuit_of f) (draw_from source) false (hello_of f) frames e → e ≡ CertifiedEnd (truth f)
-ends_true f formula root_value laws source frames e (way, leads, is) =
-    honest_end (circuit_of f) laws (hello_of f) (draw_from source) (element_drawn source) way e leads ∙ ap CertifiedEnd (honest_truth f formula root_value)
+-- ---- seeds
 
-pub certified_truth : (f : PrenexFormula) (m : Manner) (world : World) (frames : List (List ℕ)) (answer : Bool) → IsFormula f → RootValueIsTruth → HasLaws (circuit_of f)
-    → HasConversed f m world frames (CertifiedEnd answer) → world.alters ≡ false → answer ≡ truth f
-certified_truth f m world frames answer formula root_value laws (seed, is_seed, conversed) alters =
-    let e : CertifiedEnd answer ≡ CertifiedEnd (truth f) = ends_true f formula root_value laws (source_of m seed) frames (CertifiedEnd answer) (subst (λ b. IsConversation (circuit_of f) (draw_from (source_of m seed)) b (hello_of f) frames (CertifiedEnd answer)) alters conversed) in
-    cc
+-- the seed that was taken, if none was given
+abbrev taken : Option (List ℕ) → List ℕ → Option (List ℕ)
+taken None seed = Some seed
+taken (Some given) seed = None
+
+took : (given : Option (List ℕ)) (seeds now : Option (ℕ → Option (List ℕ))) (seed : List ℕ) → IsSeeded given seeds now (Some seed) → TookSeed seeds now (taken given seed)
+took None seeds now seed is = is
+took (Some g) seeds now seed is = is.1
+
+is_seed : (given : Option (List ℕ)) (seeds now : Option (ℕ → Option (List ℕ))) (seed : List ℕ) (frames : List (List ℕ)) (lines : List ℕ) → IsSeeded given seeds now (Some seed)
+    → IsSeedOf given (record { seed = taken given seed; frames = frames; lines = lines }) seed
+is_seed None seeds now seed frames lines is = refl
+is_seed (Some g) seeds now seed frames lines is = (is.0, refl)
+
+-- no seed could be had
+pub no_seed : (p : Problem) (limits : SolveLimits) (given : Option (List ℕ)) (first : ℕ) (talk : Bool) (told : Told) (seeds now : Option (ℕ → Option (List ℕ))) (seen : Option (List (List ℕ))) (held : Option (List ℕ))
+    → CanStart p (certify_job (Made p) limits given first talk).task → IsSeeded given seeds now None
+    → (deed : Deed) × IsDeed seeds now seen seen deed × Decides (certify_job (Made p) limits given first talk) told deed held held (Some (Stopped NoSeed))
+no_seed p limits None first talk told seeds now seen held can is = (nothing, record { seed = is; frames = shows_none seen }, (((p, refl, can, refl), refl), nothing_more held))
+no_seed p limits (Some g) first talk told seeds now seen held can is = absurd is
+
+-- ---- the conversation
 
 no_failure : (failure : Failure) (b : Bool) → ending_of failure ≡ CertifiedEnd b → ⊥
 no_failure (Rejected place) b e = cc e
@@ -63,41 +79,112 @@ no_failure (WrongKind turn) b e = cc e
 no_failure (WrongCount turn want got) b e = cc e
 no_failure NotFrame b e = cc e
 
-pub failed_altered : (f : PrenexFormula) (m : Manner) (world : World) (frames : List (List ℕ)) (failure : Failure) → IsFormula f → RootValueIsTruth → HasLaws (circuit_of f)
-    → HasConversed f m world frames (ending_of failure) → world.alters ≡ true
-failed_altered f m world frames failure formula root_value laws (seed, is_seed, conversed) = elim (cases_Bool world.alters) [
-  | inl alters ↦ alters
-  | inr alters ↦ absurd (no_failure failure (truth f) (ends_true f formula root_value laws (source_of m seed) frames (ending_of failure) (subst (λ b. IsConversation (circuit_of f) (draw_from (source_of m seed)) b (hello_of f) frames (ending_of failure)) alters conversed)))
-]
+-- an unaltered one ends with the truth
+ends_true : (p : Problem) → HasLaws p.circuit → RootIs p.circuit p.truth → (source : Source) (frames : List (List ℕ)) (e : Ending) (t : Talk) (alters : Bool) → alters ≡ false
+    → IsConversation (instance_of p) (draw_from source) alters frames e t → e ≡ CertifiedEnd p.truth
+ends_true p laws root source frames e t alters honest (way, leads, is) =
+    honest_end p.circuit laws (hello_by p) (draw_from source) (element_drawn source) way e t
+    (subst (λ b. Leads (instance_of p) (draw_from source) b (beginning (instance_of p)) way (Ended e t)) honest leads)
+    ∙ ap CertifiedEnd (honest_truth p.circuit p.truth root)
 
--- the lines of the conversation are those of the words
-same_talk : (x : Conversation) (m : Manner) (frames : List (List ℕ)) → x.talk ≡ m.talk → lines_of x frames ≡ talk_lines m.talk frames
-same_talk x m frames talk = ap (λ b. cond b (talk_text frames) []) talk
+-- what an accepted answer is worth, by the frames alone
+worth_of : (p : Problem) → HasLaws p.circuit → CertifiedIsWorth → (source : Source) (frames : List (List ℕ)) (b : Bool) (t : Talk) (alters : Bool)
+    → IsConversation (instance_of p) (draw_from source) alters frames (CertifiedEnd b) t → ShowsIn p.circuit b t
+worth_of p laws law source frames b t alters (way, leads, is) =
+    let read = all_readings (instance_of p) (draw_from source) alters (beginning (instance_of p)) way (Ended (CertifiedEnd b) t) leads in
+    (law (instance_of p) laws.shaped (draw_from source) (element_drawn source) read.0 read.1 b t read.2).1
 
-pub told_certified : (f : PrenexFormula) (m : Manner) (world : World) (x : Conversation) (seed : List ℕ) (frames : List (List ℕ)) (old new : Option (List ℕ)) (answer : Bool)
-    → x.circuit.now ≡ circuit_of f → x.hello ≡ hello_of f → x.talk ≡ m.talk → IsSeed m.seed world seed → IsTalk x (draw_from (source_of m seed)) world.alters frames old new (Certified answer)
-    → HasConversed f m world frames (CertifiedEnd answer) × (new ≡ append_known old (talk_lines m.talk frames)) × IsWorthTo f m world frames answer
-told_certified f m world x seed frames old new answer circuit hello talk is_seed (conversed, lines, worth) = (
-  about f m world seed x.circuit.now x.hello frames (CertifiedEnd answer) circuit hello is_seed conversed,
-  lines ∙ ap (append_known old) (same_talk x m frames talk),
-  (
-    seed,
-    is_seed,
-    subst (λ z. IsWorth (circuit_of f) (draw_from (source_of m seed)) world.alters z frames answer) hello
-        (subst (λ z. IsWorth z (draw_from (source_of m seed)) world.alters x.hello frames answer) circuit worth),
-  ),
-)
+-- the conversation was about the problem
+about_it : (p : Problem) (x : Conversation) (source : Source) (alters : Bool) (frames : List (List ℕ)) (e : Ending) (t : Talk) → instance_by x ≡ instance_of p
+    → IsConversation (instance_by x) (draw_from source) alters frames e t → IsConversation (instance_of p) (draw_from source) alters frames e t
+about_it p x source alters frames e t same is = subst (λ (z : Instance). IsConversation z (draw_from source) alters frames e t) same is
 
-pub told_failed : (f : PrenexFormula) (m : Manner) (world : World) (x : Conversation) (seed : List ℕ) (frames : List (List ℕ)) (old new : Option (List ℕ)) (failure : Failure)
-    → x.circuit.now ≡ circuit_of f → x.hello ≡ hello_of f → x.talk ≡ m.talk → IsSeed m.seed world seed → IsTalk x (draw_from (source_of m seed)) world.alters frames old new (Failed failure)
-    → HasConversed f m world frames (ending_of failure) × (new ≡ append_known old (talk_lines m.talk frames))
-told_failed f m world x seed frames old new failure circuit hello talk is_seed (conversed, lines) =
-    (about f m world seed x.circuit.now x.hello frames (ending_of failure) circuit hello is_seed conversed, lines ∙ ap (append_known old) (same_talk x m frames talk))
+pub about_problem : (x : Conversation) (f : PrenexFormula) (c : OrderedCircuit) (digest : List ℕ) → x.circuit.now ≡ c → c ≡ (problem_of f).circuit
+    → x.hello ≡ record { wire = 1; circuit = 1; order = 0; digest = digest } → digest ≡ sha256 (canonical_text f) → instance_by x ≡ instance_of (problem_of f)
+about_problem x f c digest circuit same hello named =
+    let whole = circuit ∙ same in
+    let greeting = hello ∙ problem_hello f digest named in
+    λ i. record { circuit = whole i; hello = greeting i }
 
-pub told_front : (f : PrenexFormula) (m : Manner) (world : World) (x : Conversation) (seed : List ℕ) (frames : List (List ℕ)) (old new : Option (List ℕ)) → CanCertify f m.limits
-    → x.circuit.now ≡ circuit_of f → x.hello ≡ hello_of f → x.talk ≡ m.talk → IsSeed m.seed world seed → IsTalk x (draw_from (source_of m seed)) world.alters frames old new Unprinted
-    → IsConversing f m world frames × ((n : ℕ) × (new ≡ append_known old (take n (talk_lines m.talk frames))))
-told_front f m world x seed frames old new can circuit hello talk is_seed (begun, (n, lines)) = (
-  (can, (seed, is_seed, subst (λ z. IsBegun (circuit_of f) (draw_from (source_of m seed)) world.alters z frames) hello (subst (λ z. IsBegun z (draw_from (source_of m seed)) world.alters x.hello frames) circuit begun))),
-  (n, lines ∙ ap (λ ls. append_known old (take n ls)) (same_talk x m frames talk)),
-)
+pub certified : (p : Problem) (limits : SolveLimits) (given : Option (List ℕ)) (first : ℕ) (talk : Bool) (told : Told) (x : Conversation) (seed : List ℕ)
+    (seeds now : Option (ℕ → Option (List ℕ))) (seen seen_now : Option (List (List ℕ))) (frames : List (List ℕ)) (old new : Option (List ℕ)) (a : Answer) (n : Tally)
+    → HasLaws p.circuit → CertifiedIsWorth → RootIs p.circuit p.truth → CanStart p (certify_job (Made p) limits given first talk).task → instance_by x ≡ instance_of p → x.talk ≡ talk
+    → IsSeeded given seeds now (Some seed) → Shows seen seen_now frames → IsTalk x (draw_from (record { seed = seed; first = first })) told.alters frames old new (Certified a.truth)
+    → (a.vars ≡ p.vars) × (a.clauses ≡ p.clauses) → IsTally p n
+    → (deed : Deed) × IsDeed seeds now seen seen_now deed × Decides (certify_job (Made p) limits given first talk) told deed old new (Some (Done (CertifiedSo a n)))
+certified p limits given first talk told x seed seeds now seen seen_now frames old new a n laws law root can same talks seeded shows (t, conversed, lines) numbers tally =
+    let source : Source = record { seed = seed; first = first } in
+    let printed : List ℕ = cond talk (talk_text (spoken (CertifiedEnd a.truth) frames)) [] in
+    let deed : Deed = record { seed = taken given seed; frames = frames; lines = printed } in
+    let about : IsConversation (instance_of p) (draw_from source) told.alters frames (CertifiedEnd a.truth) t = about_it p x source told.alters frames (CertifiedEnd a.truth) t same conversed in (
+      deed,
+      record { seed = took given seeds now seed seeded; frames = shows },
+      (
+        (
+          p,
+          refl,
+          can,
+          (
+            record {
+              conversed = record { seed = seed; is_seed = is_seed given seeds now seed frames printed seeded; talk = t; frames = about };
+              root = root;
+              worth = worth_of p laws law source frames a.truth t told.alters about;
+              truly = λ honest. (let e : CertifiedEnd a.truth ≡ CertifiedEnd p.truth = ends_true p laws root source frames (CertifiedEnd a.truth) t told.alters honest about in cc);
+              numbers = numbers;
+              tally = tally;
+            },
+            refl,
+          ),
+        ),
+        lines ∙ ap (λ b. append_known old (cond b (talk_text (spoken (CertifiedEnd a.truth) frames)) [])) talks,
+      ),
+    )
+
+pub failed : (p : Problem) (limits : SolveLimits) (given : Option (List ℕ)) (first : ℕ) (talk : Bool) (told : Told) (x : Conversation) (seed : List ℕ)
+    (seeds now : Option (ℕ → Option (List ℕ))) (seen seen_now : Option (List (List ℕ))) (frames : List (List ℕ)) (old new : Option (List ℕ)) (failure : Failure)
+    → HasLaws p.circuit → RootIs p.circuit p.truth → CanStart p (certify_job (Made p) limits given first talk).task → instance_by x ≡ instance_of p → x.talk ≡ talk
+    → IsSeeded given seeds now (Some seed) → Shows seen seen_now frames → IsTalk x (draw_from (record { seed = seed; first = first })) told.alters frames old new (Failed failure)
+    → (deed : Deed) × IsDeed seeds now seen seen_now deed × Decides (certify_job (Made p) limits given first talk) told deed old new (Some (Done (FailedSo failure)))
+failed p limits given first talk told x seed seeds now seen seen_now frames old new failure laws root can same talks seeded shows (t, conversed, lines) =
+    let source : Source = record { seed = seed; first = first } in
+    let printed : List ℕ = cond talk (talk_text (spoken (ending_of failure) frames)) [] in
+    let about : IsConversation (instance_of p) (draw_from source) told.alters frames (ending_of failure) t = about_it p x source told.alters frames (ending_of failure) t same conversed in
+    let altered : told.alters ≡ true = elim (cases_Bool told.alters) [
+      | inl alters ↦ alters
+      | inr honest ↦ absurd (no_failure failure p.truth (ends_true p laws root source frames (ending_of failure) t told.alters honest about))
+    ] in (
+      record { seed = taken given seed; frames = frames; lines = printed },
+      record { seed = took given seeds now seed seeded; frames = shows },
+      (
+        (
+          p,
+          refl,
+          can,
+          (
+            (record { seed = seed; is_seed = is_seed given seeds now seed frames printed seeded; talk = t; frames = about }, altered),
+            refl,
+          ),
+        ),
+        lines ∙ ap (λ b. append_known old (cond b (talk_text (spoken (ending_of failure) frames)) [])) talks,
+      ),
+    )
+
+-- a line could not be printed
+pub broken_off : (p : Problem) (limits : SolveLimits) (given : Option (List ℕ)) (first : ℕ) (talk : Bool) (told : Told) (x : Conversation) (seed : List ℕ)
+    (seeds now : Option (ℕ → Option (List ℕ))) (seen seen_now : Option (List (List ℕ))) (frames : List (List ℕ)) (old new : Option (List ℕ))
+    → CanStart p (certify_job (Made p) limits given first talk).task → instance_by x ≡ instance_of p → x.talk ≡ talk
+    → IsSeeded given seeds now (Some seed) → Shows seen seen_now frames → IsTalk x (draw_from (record { seed = seed; first = first })) told.alters frames old new Unprinted
+    → (deed : Deed) × IsDeed seeds now seen seen_now deed × Decides (certify_job (Made p) limits given first talk) told deed old new None
+broken_off p limits given first talk told x seed seeds now seen seen_now frames old new can same talks seeded shows (talking, (lines, piece, stepping, n, front)) =
+    let source : Source = record { seed = seed; first = first } in
+    let deed : Deed = record { seed = taken given seed; frames = frames; lines = lines } in
+    let here : IsPrintingOf (certify_job (Made p) limits given first true).kind p told.alters deed piece =
+    (seed, is_seed given seeds now seed frames lines seeded, subst (λ (z : Instance). IsStepping z (draw_from source) told.alters frames lines piece) same stepping) in (
+      deed,
+      record { seed = took given seeds now seed seeded; frames = shows },
+      (
+        piece,
+        (p, refl, can, subst (λ b. IsPrintingOf (certify_job (Made p) limits given first b).kind p told.alters deed piece) (sym talking ∙ talks) here),
+        (n, front),
+      ),
+    )

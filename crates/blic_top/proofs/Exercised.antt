@@ -1,301 +1,130 @@
--- From what is decided of each formula of an exercise to what is decided of both.
-use Rattle.std.proofs.Common.{ℕ, zero, suc, ◌≡◌, refl, sym, ◌∙◌, ap, subst, inl, inr, List, [], ◌++◌, append-nil, length, take, Bool, true, false}
+-- Two problems certified one after the other.
+use Rattle.std.proofs.Common.{ℕ, ◌≡◌, refl, sym, ◌∙◌, ap, subst, List, ◌++◌, take, Bool, true, false, inl, inr}
 use Rattle.std.specs.Prelude.{Option, Some, None}
 use Rattle.std.specs.Io.KnownBytes.{append_known}
-use Rattle.std.proofs.Math.Seq.{take-length}
-use Rattle.blic_model.specs.Formula.{PrenexFormula}
-use Rattle.blic_model.specs.Building.{circuit_of}
-use Rattle.blic_top.specs.Words.{ExerciseWords, Exercise}
-use Rattle.blic_top.specs.World.{World}
-use Rattle.blic_top.specs.DrawRun.{draw_from}
-use Rattle.blic_top.specs.Wire.{IsBegun, IsConversation, hello_of}
-use Rattle.blic_top.specs.Worth.{IsWorth}
-use Rattle.blic_top.specs.Certifying.{Manner, CertifiesFormula, IsConversing, ending_of, source_of}
-use Rattle.blic_top.specs.Exercising.{IsFirstDone, SaysOfOne, draws_about, exercise_formula, exercise_manner, is_exercised, second_manner}
-use Rattle.blic_top.specs.OfFile.{HasSmallCircuit}
-use Rattle.blic_top.specs.Deciding.{DecideCounts, Decides, DecidesOfFormula, DecidesOfOne, exercised_draws, of_one}
+use Rattle.blic_basic.proofs.Appended.{append_known-append}
+use Rattle.blic_words.specs.declared.options.Options.{Options}
+use Rattle.blic_words.specs.Requests.{Exercise}
+use Rattle.blic_top.specs.Deed.{Told, Deed, TookSeed, IsDeed}
+use Rattle.blic_top.specs.Jobs.{Given, Exercising, chain_problem, draws_about, exercise_job, exercise_seed, limits_of}
+use Rattle.blic_top.specs.Stops.{HasSmallCircuit}
+use Rattle.blic_top.specs.Ends.{Says}
+use Rattle.blic_top.specs.Means.{goes_on}
+use Rattle.blic_top.specs.Deciding.{Decides, DecidesAll, exercised_draws}
+use Rattle.blic_top.specs.Faults.{Counts, Entropy, fault_of}
 use Rattle.blic_top.specs.Outcome.{text_of}
+use Rattle.blic_top.specs.declared.outcome.Answer.{Answer}
+use Rattle.blic_top.specs.declared.outcome.Tally.{Tally}
+use Rattle.blic_top.specs.declared.outcome.End.TheVariants.{Solved, Certified, Exercised, Failed}
 use Rattle.blic_top.specs.declared.outcome.Outcome.{Outcome}
-use Rattle.blic_top.specs.declared.outcome.Outcome.TheVariants.{Usage, NotRead, TooManyClaims, TooManyPoints, TooManyPairs, TooManyNodes, EntropyFault, NoMemory, Solved, Certified, NotCertified, Exercised}
-use Rattle.blic_verifier.specs.Conversation.{Certified as CertifiedEnd}
-use Rattle.blic_top.proofs.Onward.{nothing_more, shows_more}
+use Rattle.blic_top.specs.declared.outcome.Outcome.TheVariants.{Usage, NoMemory, Stopped, Done}
+use Rattle.blic_top.proofs.Onward.{shows_more}
+use Rattle.blic_top.proofs.Subjects.{Files, with_files}
 
--- the world of a part of a run, of which no file is told
-abbrev pub part_of : Option (ℕ → Option (List ℕ)) → Option (ℕ → Option (List ℕ)) → Bool → Option (List (List ℕ)) → Option (List (List ℕ)) → World
-part_of seeds seeds_after alters seen seen_after = record { files = None; seeds = seeds; seeds_after = seeds_after; alters = alters; seen = seen; seen_after = seen_after }
+-- the outcome that has a line, after which the next is begun
+pub record HasLine (outcome : Outcome) (draws : ℕ) : Type 0 where
+  pub answer : Answer
+  pub tally : Tally
+  pub is : outcome ≡ Done (Exercised answer tally)
+  pub draws_are : tally.draws ≡ draws
 
--- no seed is taken where one is given
-pub rests : (f : PrenexFormula) (w : ExerciseWords) (first : ℕ) (world : World) (frames : List (List ℕ)) (outcome : Outcome) → SaysOfOne f (exercise_manner w first) world frames outcome
-    → world.seeds_after ≡ world.seeds
-rests f w first world frames Usage says = absurd says
-rests f w first world frames (NotRead error) says = absurd says
-rests f w first world frames (TooManyClaims k count) says = says.1.0
-rests f w first world frames (TooManyPoints count) says = says.1.0
-rests f w first world frames (TooManyPairs k) says = says.2.0
-rests f w first world frames (TooManyNodes k) says = says.2.0
-rests f w first world frames EntropyFault says = says.2.0
-rests f w first world frames NoMemory says = says.0
-rests f w first world frames (Solved t vars clauses) says = absurd says
-rests f w first world frames (Certified t vars clauses draws bad) says = absurd says
-rests f w first world frames (NotCertified failure) says = says.1.1.1
-rests f w first world frames (Exercised t vars clauses draws bad) says = says.1.1.1
+pub has_line : (outcome : Outcome) (draws : ℕ) → exercised_draws outcome ≡ Some draws → HasLine outcome draws
+has_line (Done (Exercised a n)) draws e = record { answer = a; tally = n; is = refl; draws_are = cc }
+has_line (Done (Solved a)) draws e = absurd (cc e)
+has_line (Done (Certified a n)) draws e = absurd (cc e)
+has_line (Done (Failed failure)) draws e = absurd (cc e)
+has_line Usage draws e = absurd (cc e)
+has_line NoMemory draws e = absurd (cc e)
+has_line (Stopped stop) draws e = absurd (cc e)
 
--- what is said of a part of a run is said of the run
-moved : (f : PrenexFormula) (w : ExerciseWords) (first : ℕ) (part world : World) (frames : List (List ℕ)) (outcome : Outcome) → part.alters ≡ world.alters → world.seeds_after ≡ world.seeds
-    → SaysOfOne f (exercise_manner w first) part frames outcome → SaysOfOne f (exercise_manner w first) world frames outcome
-moved f w first part world frames Usage same rest says = absurd says
-moved f w first part world frames (NotRead error) same rest says = absurd says
-moved f w first part world frames (TooManyClaims k count) same rest (many, quiet) = (many, (rest, quiet.1))
-moved f w first part world frames (TooManyPoints count) same rest (many, quiet) = (many, (rest, quiet.1))
-moved f w first part world frames (TooManyPairs k) same rest (small, many, quiet) = (small, many, (rest, quiet.1))
-moved f w first part world frames (TooManyNodes k) same rest (small, many, quiet) = (small, many, (rest, quiet.1))
-moved f w first part world frames EntropyFault same rest (can, none, quiet) = (can, none, (rest, quiet.1))
-moved f w first part world frames NoMemory same rest quiet = (rest, quiet.1)
-moved f w first part world frames (Solved t vars clauses) same rest says = absurd says
-moved f w first part world frames (Certified t vars clauses draws bad) same rest says = absurd says
-moved f w first part world frames (NotCertified failure) same rest (can, (seed, (is, quiet), conversed), altered) = (
-  can,
-  (
-    seed,
-    (is, rest),
-    subst (λ b. IsConversation (circuit_of f) (draw_from (source_of (exercise_manner w first) seed)) b (hello_of f) frames (ending_of failure)) same conversed,
-  ),
-  sym same ∙ altered,
-)
-moved f w first part world frames (Exercised t vars clauses draws bad) same rest (can, (seed, (is, quiet), conversed), (other, (is_other, still), worth), truly, same_vars, same_clauses, same_draws, same_bad) = (
-  can,
-  (
-    seed,
-    (is, rest),
-    subst (λ b. IsConversation (circuit_of f) (draw_from (source_of (exercise_manner w first) seed)) b (hello_of f) frames (CertifiedEnd t)) same conversed,
-  ),
-  (
-    other,
-    (is_other, rest),
-    subst (λ b. IsWorth (circuit_of f) (draw_from (source_of (exercise_manner w first) other)) b (hello_of f) frames t) same worth,
-  ),
-  (λ honest. truly (same ∙ honest)),
-  same_vars,
-  same_clauses,
-  same_draws,
-  same_bad,
-)
+pub no_line : (outcome : Outcome) → exercised_draws outcome ≡ None → goes_on outcome ≡ false
+no_line (Done (Exercised a n)) e = absurd (cc e)
+no_line (Done (Solved a)) e = refl
+no_line (Done (Certified a n)) e = refl
+no_line (Done (Failed failure)) e = refl
+no_line Usage e = refl
+no_line NoMemory e = refl
+no_line (Stopped stop) e = refl
 
--- so it is with a conversation under way
-moved_on : (f : PrenexFormula) (w : ExerciseWords) (first : ℕ) (part world : World) (frames : List (List ℕ)) → part.alters ≡ world.alters → world.seeds_after ≡ world.seeds
-    → IsConversing f (exercise_manner w first) part frames → IsConversing f (exercise_manner w first) world frames
-moved_on f w first part world frames same rest (can, (seed, (is, quiet), begun)) =
-    (can, (seed, (is, rest), subst (λ b. IsBegun (circuit_of f) (draw_from (source_of (exercise_manner w first) seed)) b (hello_of f) frames) same begun))
+-- what holds of the first problem, once it is certified
+pub record IsFirst (pairs : ℕ) (o : Options) (early : Deed) (draws : ℕ) : Type 0 where
+  pub seed : early.seed ≡ None
+  pub small : HasSmallCircuit (chain_problem pairs true)
+  pub draws_are : draws ≡ draws_about (chain_problem pairs true)
 
--- what certifying a formula says is said of one of an exercise
-says_of_one : (f : PrenexFormula) (m : Manner) (world : World) (frames : List (List ℕ)) (outcome : Outcome) → CertifiesFormula f m world frames outcome → SaysOfOne f m world frames (of_one outcome)
-says_of_one f m world frames Usage says = says
-says_of_one f m world frames (NotRead error) says = says
-says_of_one f m world frames (TooManyClaims k count) says = says
-says_of_one f m world frames (TooManyPoints count) says = says
-says_of_one f m world frames (TooManyPairs k) says = says
-says_of_one f m world frames (TooManyNodes k) says = says
-says_of_one f m world frames EntropyFault says = says
-says_of_one f m world frames NoMemory says = says
-says_of_one f m world frames (Solved t vars clauses) says = says
-says_of_one f m world frames (Certified t vars clauses draws bad) says = says
-says_of_one f m world frames (NotCertified failure) says = says
-says_of_one f m world frames (Exercised t vars clauses draws bad) says = absurd says
-
-pub decides_one : (f : PrenexFormula) (w : ExerciseWords) (first : ℕ) (world : World) (old new : Option (List ℕ)) (outcome : Outcome)
-    → DecidesOfFormula f (exercise_manner w first) world old new (Some outcome) → DecidesOfOne f (exercise_manner w first) world old new (Some (of_one outcome))
-decides_one f w first world old new outcome (frames, shown, says, printed) =
-    (frames, shown, says_of_one f (exercise_manner w first) world frames outcome says, printed ∙ sym (nothing_more old))
-
-abbrev no_bytes : List ℕ
-no_bytes = []
-
-take_nothing : (k : ℕ) → take k no_bytes ≡ no_bytes
-take_nothing zero = refl
-take_nothing (suc k) = refl
-
--- so is a conversation under way
-pub of_front : (f : PrenexFormula) (w : ExerciseWords) (first : ℕ) (world : World) (old new : Option (List ℕ)) → DecidesOfFormula f (exercise_manner w first) world old new None
-    → DecidesOfOne f (exercise_manner w first) world old new None
-of_front f w first world old new (frames, shown, conversing, n, printed) = (frames, shown, conversing, printed ∙ (ap (append_known old) (take_nothing n) ∙ sym (nothing_more old)))
-
--- ---- both
-
--- the first was not certified
-pub decides_first : (w : ExerciseWords) (files : Option (List ℕ → Option (List ℕ))) (seeds seeds_now : Option (ℕ → Option (List ℕ))) (alters : Bool) (seen seen_now : Option (List (List ℕ)))
-    (held held_now : Option (List ℕ)) (outcome : Outcome) → is_exercised outcome ≡ false
-    → DecidesOfOne (exercise_formula w true) (exercise_manner w 0) (part_of seeds seeds_now alters seen seen_now) held held_now (Some outcome)
-    → Decides (Some (Exercise w)) (record { files = files; seeds = seeds; seeds_after = seeds_now; alters = alters; seen = seen; seen_after = seen_now }) held held_now (Some outcome)
-decides_first w files seeds seeds_now alters seen seen_now held held_now outcome not (frames, shown, says, same) = (
-  frames,
-  shown,
-  [],
-  inl (
-    not,
-    moved (exercise_formula w true) w 0 (part_of seeds seeds_now alters seen seen_now)
-        (record { files = files; seeds = seeds; seeds_after = seeds_now; alters = alters; seen = seen; seen_after = seen_now }) frames outcome refl
-        (rests (exercise_formula w true) w 0 (part_of seeds seeds_now alters seen seen_now) frames outcome says) says,
-    refl,
-  ),
-  same ∙ nothing_more held,
-)
-
--- its conversation was broken off
-pub decides_first_front : (w : ExerciseWords) (files : Option (List ℕ → Option (List ℕ))) (seeds seeds_now : Option (ℕ → Option (List ℕ))) (alters : Bool) (seen seen_now : Option (List (List ℕ)))
-    (held held_now : Option (List ℕ)) → DecidesOfOne (exercise_formula w true) (exercise_manner w 0) (part_of seeds seeds_now alters seen seen_now) held held_now None
-    → Decides (Some (Exercise w)) (record { files = files; seeds = seeds; seeds_after = seeds_now; alters = alters; seen = seen; seen_after = seen_now }) held held_now None
-decides_first_front w files seeds seeds_now alters seen seen_now held held_now (frames, shown, (can, (seed, (is, quiet), begun)), same) =
-    (frames, shown, [], inl ((can, (seed, (is, quiet), begun)), refl), 0, same ∙ nothing_more held)
-
--- the first was certified: its line is that of the run
-abbrev done : ExerciseWords → World → World → List (List ℕ) → Outcome → Type 0
-done w part world early first = part.alters ≡ world.alters → world.seeds_after ≡ world.seeds → SaysOfOne (exercise_formula w true) (exercise_manner w 0) part early first → is_exercised first ≡ true
-    → IsFirstDone w world early (text_of first)
-
-is_done : (w : ExerciseWords) (part world : World) (early : List (List ℕ)) (first : Outcome) → done w part world early first
-is_done w part world early first same rest says is = record {
-  first = first;
-  exercised = is;
-  says = moved (exercise_formula w true) w 0 part world early first same rest says;
-  text = refl;
+first_so : (pairs : ℕ) (o : Options) (told : Told) (early : Deed) (a : Answer) (n : Tally) → Says (exercise_job pairs o true 0) told early (Done (Exercised a n)) → IsFirst pairs o early n.draws
+first_so pairs o told early a n (q, is, can, ends) = record {
+  seed = ends.0.conversed.is_seed.1;
+  small = subst HasSmallCircuit is can.0;
+  draws_are = ends.0.tally.0 ∙ ap draws_about is;
 }
 
--- but its line could not be printed whole
-pub decides_line : (w : ExerciseWords) (files : Option (List ℕ → Option (List ℕ))) (seeds seeds_now : Option (ℕ → Option (List ℕ))) (alters : Bool) (seen seen_now : Option (List (List ℕ)))
-    (held held_mid held_now : Option (List ℕ)) (first : Outcome) → is_exercised first ≡ true
-    → DecidesOfOne (exercise_formula w true) (exercise_manner w 0) (part_of seeds seeds_now alters seen seen_now) held held_mid (Some first)
-    → (n : ℕ) × (held_now ≡ append_known held_mid (take n (text_of first)))
-    → Decides (Some (Exercise w)) (record { files = files; seeds = seeds; seeds_after = seeds_now; alters = alters; seen = seen; seen_after = seen_now }) held held_now None
-decides_line w files seeds seeds_now alters seen seen_now held held_mid held_now first is (early, shown, says, same) (n, printed) = (
-  early,
-  shown,
+pub first_is : (pairs : ℕ) (o : Options) (told : Told) (early : Deed) (outcome : Outcome) (draws : ℕ) (held new : Option (List ℕ)) → HasLine outcome draws
+    → Decides (exercise_job pairs o true 0) told early held new (Some outcome) → IsFirst pairs o early draws
+first_is pairs o told early outcome draws held new line decides =
+    let one = first_so pairs o told early line.answer line.tally (subst (Says (exercise_job pairs o true 0) told early) line.is decides.0) in
+    record { seed = one.seed; small = one.small; draws_are = sym line.draws_are ∙ one.draws_are }
+
+goes : (outcome : Outcome) (draws : ℕ) → HasLine outcome draws → goes_on outcome ≡ true
+goes outcome draws line = ap goes_on line.is
+
+-- of an exercise nothing is printed in the midst of a conversation
+pub never_printing : {A : Type 0} (pairs : ℕ) (o : Options) (t : Bool) (first : ℕ) (told : Told) (deed : Deed) (held new : Option (List ℕ)) → Decides (exercise_job pairs o t first) told deed held new None → A
+never_printing pairs o t first told deed held new (piece, printing, cut) = absurd printing.3
+
+-- the first one ends the run
+pub first_only : (pairs : ℕ) (o : Options) (alters : Bool) (deed : Deed) (held new : Option (List ℕ)) (outcome : Outcome) → exercised_draws outcome ≡ None
+    → Decides (exercise_job pairs o true 0) (record { files = None; alters = alters }) deed held new (Some outcome)
+    → (files : Files) → DecidesAll (Some (Exercise pairs o)) (record { files = files; alters = alters }) deed held new (Some outcome)
+first_only pairs o alters deed held new outcome none (says, lines) files =
+    (inl (no_line outcome none, with_files files alters (chain_problem pairs true) (Some (limits_of o)) (Given (exercise_seed o)) (Exercising (exercise_seed o) 0) deed outcome says), lines)
+
+-- its line could not be printed
+pub line_cut : (pairs : ℕ) (o : Options) (alters : Bool) (early : Deed) (held mid new : Option (List ℕ)) (first : Outcome) (draws : ℕ) → HasLine first draws
+    → Decides (exercise_job pairs o true 0) (record { files = None; alters = alters }) early held mid (Some first) → (n : ℕ) × (new ≡ append_known mid (take n (text_of first)))
+    → (files : Files) → DecidesAll (Some (Exercise pairs o)) (record { files = files; alters = alters }) early held new None
+line_cut pairs o alters early held mid new first draws line (says, lines) (n, front) files = (
   text_of first,
-  inr (
-    early,
-    [],
-    sym (append-nil early),
-    is_done w (part_of seeds seeds_now alters seen seen_now) (record { files = files; seeds = seeds; seeds_after = seeds_now; alters = alters; seen = seen; seen_after = seen_now }) early first refl
-        (rests (exercise_formula w true) w 0 (part_of seeds seeds_now alters seen seen_now) early first says) says is,
-    inl refl,
-  ),
-  n,
-  printed ∙ ap (λ z. append_known z (take n (text_of first))) same,
+  inr (inl (first, goes first draws line, with_files files alters (chain_problem pairs true) (Some (limits_of o)) (Given (exercise_seed o)) (Exercising (exercise_seed o) 0) early first says, refl)),
+  (n, front ∙ (ap (λ h. append_known h (take n (text_of first))) lines ∙ append_known-append held early.lines (take n (text_of first)))),
 )
 
--- and then the second
-pub decides_both : (w : ExerciseWords) (files : Option (List ℕ → Option (List ℕ))) (seeds seeds_mid seeds_now : Option (ℕ → Option (List ℕ))) (alters alters_mid : Bool)
-    (seen seen_mid seen_now : Option (List (List ℕ))) (held held_mid held_line held_now : Option (List ℕ)) (first : Outcome) (result : Option Outcome) → is_exercised first ≡ true
-    → alters_mid ≡ alters → DecidesOfOne (exercise_formula w true) (exercise_manner w 0) (part_of seeds seeds_mid alters seen seen_mid) held held_mid (Some first)
-    → held_line ≡ append_known held_mid (text_of first)
-    → DecidesOfOne (exercise_formula w false) (second_manner w) (part_of seeds_mid seeds_now alters_mid seen_mid seen_now) held_line held_now result
-    → Decides (Some (Exercise w)) (record { files = files; seeds = seeds; seeds_after = seeds_now; alters = alters; seen = seen; seen_after = seen_now }) held held_now result
-decides_both w files seeds seeds_mid seeds_now alters alters_mid seen seen_mid seen_now held held_mid held_line held_now first (Some outcome) is same_alters (early, shown, says, same) printed
-    (late, shows, second, still) =
-    let rest : seeds_now ≡ seeds = rests (exercise_formula w false) w (draws_about (exercise_formula w true)) (part_of seeds_mid seeds_now alters_mid seen_mid seen_now) late outcome second
-    ∙ rests (exercise_formula w true) w 0 (part_of seeds seeds_mid alters seen seen_mid) early first says in
-    let world : World = record { files = files; seeds = seeds; seeds_after = seeds_now; alters = alters; seen = seen; seen_after = seen_now } in (
-      early ++ late,
-      shows_more seen seen_mid seen_now early late shown shows,
-      text_of first,
-      inr (
-        early,
-        late,
-        refl,
-        is_done w (part_of seeds seeds_mid alters seen seen_mid) world early first refl rest says is,
-        moved (exercise_formula w false) w (draws_about (exercise_formula w true)) (part_of seeds_mid seeds_now alters_mid seen_mid seen_now) world late outcome same_alters rest second,
-      ),
-      still ∙ (printed ∙ ap (λ z. append_known z (text_of first)) same),
-    )
-decides_both w files seeds seeds_mid seeds_now alters alters_mid seen seen_mid seen_now held held_mid held_line held_now first None is same_alters (early, shown, says, same) printed
-    (late, shows, (can, (seed, (given, quiet), begun)), still) =
-    let rest : seeds_now ≡ seeds = quiet ∙ rests (exercise_formula w true) w 0 (part_of seeds seeds_mid alters seen seen_mid) early first says in
-    let world : World = record { files = files; seeds = seeds; seeds_after = seeds_now; alters = alters; seen = seen; seen_after = seen_now } in (
-      early ++ late,
-      shows_more seen seen_mid seen_now early late shown shows,
-      text_of first,
-      inr (
-        early,
-        late,
-        refl,
-        is_done w (part_of seeds seeds_mid alters seen seen_mid) world early first refl rest says is,
-        inr (moved_on (exercise_formula w false) w (draws_about (exercise_formula w true)) (part_of seeds_mid seeds_now alters_mid seen_mid seen_now) world late same_alters rest
-            (can, (seed, (given, quiet), begun))),
-      ),
-      length (text_of first),
-      still ∙ (printed ∙ (ap (λ z. append_known z (text_of first)) same ∙ ap (append_known held) (sym (take-length (text_of first))))),
-    )
+-- the second one begins where the first one ended
+pub joined : Deed → Outcome → Deed → Deed
+joined early first late = record { seed = late.seed; frames = early.frames ++ late.frames; lines = early.lines ++ text_of first ++ late.lines }
 
--- ---- counts
+pub joined_deed : (pairs : ℕ) (o : Options) (seeds mid now : Option (ℕ → Option (List ℕ))) (seen seen_mid seen_now : Option (List (List ℕ))) (early late : Deed) (first : Outcome) (draws : ℕ) → IsFirst pairs o early draws
+    → IsDeed seeds mid seen seen_mid early → IsDeed mid now seen_mid seen_now late → IsDeed seeds now seen seen_now (joined early first late)
+unfolding joined
+joined_deed pairs o seeds mid now seen seen_mid seen_now early late first draws one before after =
+    let same : mid ≡ seeds = subst (TookSeed seeds mid) one.seed before.seed in
+    record { seed = subst (λ s. TookSeed s now late.seed) same after.seed; frames = shows_more seen seen_mid seen_now early.frames late.frames before.frames after.frames }
 
-pub counts_of_one : (files files_now seeds seeds_now written written_now : ℕ) (outcome : Outcome) → DecideCounts files files_now seeds seeds_now written written_now (Some outcome)
-    → DecideCounts files files_now seeds seeds_now written written_now (Some (of_one outcome))
-counts_of_one files files_now seeds seeds_now written written_now Usage counts = counts
-counts_of_one files files_now seeds seeds_now written written_now (NotRead error) counts = counts
-counts_of_one files files_now seeds seeds_now written written_now (TooManyClaims k count) counts = counts
-counts_of_one files files_now seeds seeds_now written written_now (TooManyPoints count) counts = counts
-counts_of_one files files_now seeds seeds_now written written_now (TooManyPairs k) counts = counts
-counts_of_one files files_now seeds seeds_now written written_now (TooManyNodes k) counts = counts
-counts_of_one files files_now seeds seeds_now written written_now EntropyFault counts = counts
-counts_of_one files files_now seeds seeds_now written written_now NoMemory counts = counts
-counts_of_one files files_now seeds seeds_now written written_now (Solved t vars clauses) counts = counts
-counts_of_one files files_now seeds seeds_now written written_now (Certified t vars clauses draws bad) counts = counts
-counts_of_one files files_now seeds seeds_now written written_now (NotCertified failure) counts = counts
-counts_of_one files files_now seeds seeds_now written written_now (Exercised t vars clauses draws bad) counts = counts
+pub both : (pairs : ℕ) (o : Options) (alters altered : Bool) (held h1 h2 h3 : Option (List ℕ)) (early late : Deed) (first : Outcome) (draws : ℕ) (result : Option Outcome) → HasLine first draws → IsFirst pairs o early draws → altered ≡ alters
+    → Decides (exercise_job pairs o true 0) (record { files = None; alters = alters }) early held h1 (Some first) → h2 ≡ append_known h1 (text_of first)
+    → Decides (exercise_job pairs o false draws) (record { files = None; alters = altered }) late h2 h3 result
+    → (files : Files) → DecidesAll (Some (Exercise pairs o)) (record { files = files; alters = alters }) (joined early first late) held h3 result
+unfolding joined
+both pairs o alters altered held h1 h2 h3 early late first draws (Some outcome) line one same (says, lines) printed (says_late, lines_late) files = (
+  inr (
+    late,
+    record {
+      early = early;
+      first = first;
+      goes = goes first draws line;
+      says = with_files files alters (chain_problem pairs true) (Some (limits_of o)) (Given (exercise_seed o)) (Exercising (exercise_seed o) 0) early first says;
+      joined = record { frames = refl; lines = refl; seed = inl (one.seed, refl) };
+    },
+    with_files files alters (chain_problem pairs false) (Some (limits_of o)) (Given (exercise_seed o)) (Exercising (exercise_seed o) (draws_about (chain_problem pairs true))) late outcome
+        (subst (λ d. Says (exercise_job pairs o false d) (record { files = None; alters = alters }) late outcome) one.draws_are
+        (subst (λ b. Says (exercise_job pairs o false draws) (record { files = None; alters = b }) late outcome) same says_late)),
+  ),
+  lines_late ∙ (ap (λ h. append_known h late.lines) (printed ∙ (ap (λ h. append_known h (text_of first)) lines ∙ append_known-append held early.lines (text_of first)))
+      ∙ append_known-append held (early.lines ++ text_of first) late.lines),
+)
+both pairs o alters altered held h1 h2 h3 early late first draws None line one same (says, lines) printed decides files =
+    never_printing pairs o false draws (record { files = None; alters = altered }) late h2 h3 decides
 
--- ---- the line of the first
-
-pub no_line : (outcome : Outcome) → exercised_draws outcome ≡ None → is_exercised outcome ≡ false
-no_line Usage none = refl
-no_line (NotRead error) none = refl
-no_line (TooManyClaims k count) none = refl
-no_line (TooManyPoints count) none = refl
-no_line (TooManyPairs k) none = refl
-no_line (TooManyNodes k) none = refl
-no_line EntropyFault none = refl
-no_line NoMemory none = refl
-no_line (Solved t vars clauses) none = refl
-no_line (Certified t vars clauses draws bad) none = refl
-no_line (NotCertified failure) none = refl
-no_line (Exercised t vars clauses draws bad) none = cc
-
-pub has_line : (outcome : Outcome) (draws : ℕ) → exercised_draws outcome ≡ Some draws → is_exercised outcome ≡ true
-has_line Usage d is = cc
-has_line (NotRead error) d is = cc
-has_line (TooManyClaims k count) d is = cc
-has_line (TooManyPoints count) d is = cc
-has_line (TooManyPairs k) d is = cc
-has_line (TooManyNodes k) d is = cc
-has_line EntropyFault d is = cc
-has_line NoMemory d is = cc
-has_line (Solved t vars clauses) d is = cc
-has_line (Certified t vars clauses draws bad) d is = cc
-has_line (NotCertified failure) d is = cc
-has_line (Exercised t vars clauses draws bad) d is = refl
-
-pub first_draws : (f : PrenexFormula) (m : Manner) (world : World) (frames : List (List ℕ)) (outcome : Outcome) (n : ℕ) → exercised_draws outcome ≡ Some n → SaysOfOne f m world frames outcome → n ≡ draws_about f
-first_draws f m world frames Usage n is says = absurd cc
-first_draws f m world frames (NotRead error) n is says = absurd cc
-first_draws f m world frames (TooManyClaims k count) n is says = absurd cc
-first_draws f m world frames (TooManyPoints count) n is says = absurd cc
-first_draws f m world frames (TooManyPairs k) n is says = absurd cc
-first_draws f m world frames (TooManyNodes k) n is says = absurd cc
-first_draws f m world frames EntropyFault n is says = absurd cc
-first_draws f m world frames NoMemory n is says = absurd cc
-first_draws f m world frames (Solved t vars clauses) n is says = absurd cc
-first_draws f m world frames (Certified t vars clauses draws bad) n is says = absurd cc
-first_draws f m world frames (NotCertified failure) n is says = absurd cc
-first_draws f m world frames (Exercised t vars clauses draws bad) n is says = let e : draws ≡ n = cc in sym e ∙ says.6
-
-pub first_small : (f : PrenexFormula) (m : Manner) (world : World) (frames : List (List ℕ)) (outcome : Outcome) (n : ℕ) → exercised_draws outcome ≡ Some n → SaysOfOne f m world frames outcome → HasSmallCircuit f
-first_small f m world frames Usage n is says = absurd cc
-first_small f m world frames (NotRead error) n is says = absurd cc
-first_small f m world frames (TooManyClaims k count) n is says = absurd cc
-first_small f m world frames (TooManyPoints count) n is says = absurd cc
-first_small f m world frames (TooManyPairs k) n is says = absurd cc
-first_small f m world frames (TooManyNodes k) n is says = absurd cc
-first_small f m world frames EntropyFault n is says = absurd cc
-first_small f m world frames NoMemory n is says = absurd cc
-first_small f m world frames (Solved t vars clauses) n is says = absurd cc
-first_small f m world frames (Certified t vars clauses draws bad) n is says = absurd cc
-first_small f m world frames (NotCertified failure) n is says = absurd cc
-first_small f m world frames (Exercised t vars clauses draws bad) n is says = says.0.0
+-- an outcome with a line tells no fault
+pub quiet_line : (outcome : Outcome) (draws before now : ℕ) → HasLine outcome draws → Counts Entropy (fault_of outcome) before now → now ≡ before
+quiet_line outcome draws before now line counts = subst (λ o. Counts Entropy (fault_of o) before now) line.is counts

@@ -19,12 +19,18 @@ use Rattle.blic_messages.specs.declared.ask.Ask.TheVariants.{Hello, Go, Draw, By
 use Rattle.blic_prover.specs.Honest.{Progress, Waiting, Running, Replied, honest, move_at, progress, progress_with, reply_at, said_reply, same_hello}
 use Rattle.blic_verifier.specs.Verdict.{Talk, Silent, Talked, fault_upto, place_of, told_count, judged, judged_at, verdict, next_after, with_reply, with_draw}
 use Rattle.blic_verifier.specs.Acceptance.{Check}
-use Rattle.blic_verifier.specs.Conversation.{Awaits, go_on, honest_reply, said_of}
+use Rattle.blic_verifier.specs.Conversation.{Instance, Awaits, go_on, honest_reply, said_of}
 use Rattle.blic_verifier.specs.declared.next.Next.{Next}
 use Rattle.blic_verifier.specs.declared.next.Next.TheVariants as next
-use Rattle.blic_top.specs.Talking.{StandsNext, IsOpen, replies_in}
+use Rattle.blic_verifier.proofs.GoingOn.{Came, came, draw_room, draw_wants, draws_in, few_draws, go_wants, goes_on, never_over}
+use Rattle.blic_verifier.proofs.GoingOn.{Came, came, draw_room, draw_wants, draws_in, few_draws, go_wants, goes_on, never_over}
+use Rattle.blic_top.specs.Talking.{StandsNext}
+use Rattle.blic_verifier.specs.Asking.{IsOpen, replies_in}
 
 -- ---- the honest move
+
+abbrev pub about : OrderedCircuit → HelloOf → Instance
+about c h = record { circuit = c; hello = h }
 
 same_as_said : (r : Reply) → said_reply r ≡ said_of r
 same_as_said (PolysReply ps) = refl
@@ -48,7 +54,7 @@ reply_stands c t draws stands l e =
 
 -- the prover's move is the honest reply to the talk
 pub honest_move : (c : OrderedCircuit) (h : HelloOf) (asks : List Ask) (ask : Ask) (t : Talk) (n : ℕ) → StandsNext c h asks ask t → IsOpen c t n
-    → honest c h asks ask ≡ Replied (honest_reply c t)
+    → honest c h asks ask ≡ Replied (honest_reply (about c h) t)
 honest_move c h asks (Hello g) Silent n stands is_open =
     ap (λ p. move_at c h p (Hello g)) stands.1 ∙ cond-true (same_hello h g) _ _ (hello_is_served h g stands.0)
 honest_move c h asks (Hello g) (Talked b draws replies) n stands is_open = absurd stands
@@ -60,125 +66,8 @@ honest_move c h asks (Draw r) Silent n stands is_open = absurd stands
 honest_move c h asks (Draw r) (Talked b draws replies) n (before, is, come, wants) is_open =
     ap (λ p. move_at c h p (Draw r)) come
     ∙ (reply_stands c (length replies) (before ++ r ∷ []) (wants_draw_after (turns c.nodes (length c.order)) (length replies)) is_open.0 wants
-    ∙ ap (λ ds. Replied (honest_reply c (Talked b ds replies))) (sym is))
+    ∙ ap (λ ds. Replied (honest_reply (about c h) (Talked b ds replies))) (sym is))
 honest_move c h asks Bye t n stands is_open = absurd stands
-
--- ---- what comes next
-
--- whether the conversation goes on
-abbrev pub goes_on : Next → Bool
-goes_on next.Draw = true
-goes_on next.Go = true
-goes_on _ = false
-
--- what is said by whether a condition fails, all replies are there, and a draw stands next
-abbrev said_next : Option Check → Bool → Bool → Bool → Next
-said_next fault done b wants = elim fault [ Some f ↦ next.Rejected (place_of f) | None ↦ cond done (next.Done b) (cond wants next.Draw next.Go) ]
-
--- where a draw stands next, or none
-abbrev pub IsNextDraw : Next → OrderedCircuit → ℕ → Type 0
-IsNextDraw y c t = y ≡ cond (wants_draw_after (turns c.nodes (length c.order)) t) next.Draw next.Go
-
--- where it goes on, a reply is left, and a draw stands next or not
-abbrev Stands : OrderedCircuit → ℕ → Next → Type 0
-Stands c t y = (t ≡ length (turns c.nodes (length c.order)) → ⊥) × IsNextDraw y c t
-
-open_next : (fault : Option Check) (done b wants : Bool) → goes_on (said_next fault done b wants) ≡ true
-    → (done ≡ false) × (said_next fault done b wants ≡ cond wants next.Draw next.Go)
-open_next (Some f) done b wants e = absurd (cc e)
-open_next None true b wants e = absurd (cc e)
-open_next None false b wants e = (refl, refl)
-
-judged_stands : (c : OrderedCircuit) (b : Bool) (draws : List ℕ) (replies : List Reply) → goes_on (judged c.nodes (length c.order) b draws replies) ≡ true
-    → Stands c (length replies) (judged c.nodes (length c.order) b draws replies)
-judged_stands c b draws replies e =
-    let p = open_next (fault_upto c.nodes (length c.order) (transcript c.nodes (length c.order) b draws replies) (suc (length replies)))
-    (eqb (length replies) (length (turns c.nodes (length c.order)))) b (wants_draw_after (turns c.nodes (length c.order)) (length replies)) e in
-    (λ same. let done = eq-eqb (length replies) _ same in absurd (cc (sym done ∙ p.0)), p.1)
-
--- a reply that doesn't fit its turn ends it
-in_turn : (nodes : List Node) (t : ℕ) (turn : Turn) (r : Reply) (x : Next) → goes_on (judged_at nodes t turn r x) ≡ true → judged_at nodes t turn r x ≡ x
-in_turn nodes t (ForPolys k i) (PolysReply ps) x e = elim (cases_Bool (eqb (length ps) (claims nodes k))) [
-  | inl right ↦ cond-true _ _ _ right
-  | inr wrong ↦ let f : goes_on (next.WrongCount t (claims nodes k) (told_count (length ps))) ≡ true = ap goes_on (sym (cond-false _ _ _ wrong)) ∙ e in absurd (cc f)
-]
-in_turn nodes t (ForPolys k i) (ValuesReply u w) x e = absurd (cc e)
-in_turn nodes t (ForValues k) (PolysReply ps) x e = absurd (cc e)
-in_turn nodes t (ForValues k) (ValuesReply u w) x e = refl
-
-verdict_stands : (c : OrderedCircuit) (b : Bool) (draws : List ℕ) (replies : List Reply) (r : Reply) → goes_on (verdict c.nodes (length c.order) b draws replies r) ≡ true
-    → Stands c (suc (length replies)) (verdict c.nodes (length c.order) b draws replies r)
-unfolding verdict
-verdict_stands c b draws replies r e =
-    let same = in_turn c.nodes (suc (length replies)) (get_or (turns c.nodes (length c.order)) (length replies) (ForValues 0)) r
-    (judged c.nodes (length c.order) b draws (replies ++ r ∷ [])) e in
-    let stands = judged_stands c b draws (replies ++ r ∷ []) (ap goes_on (sym same) ∙ e) in
-    let long : length (replies ++ r ∷ []) ≡ suc (length replies) = length_push replies r ∙ omega arith in
-    (λ all. stands.0 (long ∙ all), same ∙ (stands.1 ∙ ap (λ t. cond (wants_draw_after (turns c.nodes (length c.order)) t) next.Draw next.Go) long))
-
--- the draws of a talk
-abbrev draws_in : Talk → List ℕ
-draws_in Silent = []
-draws_in (Talked b draws replies) = draws
-
--- a talk with a reply more, after which the conversation goes on
-abbrev pub Came : OrderedCircuit → Talk → Talk → Next → Type 0
-Came c t u y =
-    (b : Bool) × (replies : List Reply) × (u ≡ Talked b (draws_in t) replies) × (length replies ≡ replies_in t)
-    × (length replies ≡ length (turns c.nodes (length c.order)) → ⊥) × IsNextDraw y c (length replies)
-
-talked_came : (c : OrderedCircuit) (b : Bool) (draws : List ℕ) (replies : List Reply) (r : Reply) → goes_on (verdict c.nodes (length c.order) b draws replies r) ≡ true
-    → Came c (Talked b draws replies) (Talked b draws (replies ++ r ∷ [])) (verdict c.nodes (length c.order) b draws replies r)
-talked_came c b draws replies r e =
-    let long : length (replies ++ r ∷ []) ≡ suc (length replies) = length_push replies r ∙ omega arith in
-    let stands = subst (λ t. Stands c t (verdict c.nodes (length c.order) b draws replies r)) (sym long) (verdict_stands c b draws replies r e) in
-    (b, replies ++ r ∷ [], refl, long, stands.0, stands.1)
-
-pub came : (c : OrderedCircuit) (t : Talk) (s : Said) → goes_on (next_after c.nodes (length c.order) t s) ≡ true → Came c t (with_reply t s) (next_after c.nodes (length c.order) t s)
-came c Silent (Answer b) e = let stands = judged_stands c b [] [] e in (b, [], refl, refl, stands.0, stands.1)
-came c Silent (Polys ps) e = absurd (cc e)
-came c Silent (Values u w) e = absurd (cc e)
-came c Silent (Refused r) e = absurd (cc e)
-came c (Talked b draws replies) (Answer a) e = absurd (cc e)
-came c (Talked b draws replies) (Polys ps) e = talked_came c b draws replies (PolysReply ps) e
-came c (Talked b draws replies) (Values u w) e = talked_came c b draws replies (ValuesReply u w) e
-came c (Talked b draws replies) (Refused r) e = absurd (cc e)
-
--- `Over` is said after a verdict alone
-not_over_said : (fault : Option Check) (done b wants : Bool) → said_next fault done b wants ≡ next.Over → ⊥
-not_over_said (Some f) done b wants e = cc e
-not_over_said None true b wants e = cc e
-not_over_said None false b true e = cc e
-not_over_said None false b false e = cc e
-
-not_over_judged : (c : OrderedCircuit) (b : Bool) (draws : List ℕ) (replies : List Reply) → judged c.nodes (length c.order) b draws replies ≡ next.Over → ⊥
-not_over_judged c b draws replies e =
-    not_over_said (fault_upto c.nodes (length c.order) (transcript c.nodes (length c.order) b draws replies) (suc (length replies)))
-    (eqb (length replies) (length (turns c.nodes (length c.order)))) b (wants_draw_after (turns c.nodes (length c.order)) (length replies)) e
-
-not_over_turn : (nodes : List Node) (t : ℕ) (turn : Turn) (r : Reply) (x : Next) → (x ≡ next.Over → ⊥) → judged_at nodes t turn r x ≡ next.Over → ⊥
-not_over_turn nodes t (ForPolys k i) (PolysReply ps) x never e = elim (cases_Bool (eqb (length ps) (claims nodes k))) [
-  | inl right ↦ never (sym (cond-true _ _ _ right) ∙ e)
-  | inr wrong ↦ let f : next.WrongCount t (claims nodes k) (told_count (length ps)) ≡ next.Over = sym (cond-false _ _ _ wrong) ∙ e in cc f
-]
-not_over_turn nodes t (ForPolys k i) (ValuesReply u w) x never e = cc e
-not_over_turn nodes t (ForValues k) (PolysReply ps) x never e = cc e
-not_over_turn nodes t (ForValues k) (ValuesReply u w) x never e = never e
-
-not_over_verdict : (c : OrderedCircuit) (b : Bool) (draws : List ℕ) (replies : List Reply) (r : Reply) → verdict c.nodes (length c.order) b draws replies r ≡ next.Over → ⊥
-unfolding verdict
-not_over_verdict c b draws replies r e =
-    not_over_turn c.nodes (suc (length replies)) (get_or (turns c.nodes (length c.order)) (length replies) (ForValues 0)) r _ (not_over_judged c b draws (replies ++ r ∷ [])) e
-
-pub never_over : (c : OrderedCircuit) (t : Talk) (s : Said) → next_after c.nodes (length c.order) t s ≡ next.Over → ⊥
-never_over c Silent (Answer b) e = not_over_judged c b [] [] e
-never_over c Silent (Polys ps) e = cc e
-never_over c Silent (Values u w) e = cc e
-never_over c Silent (Refused r) e = cc e
-never_over c (Talked b draws replies) (Answer a) e = cc e
-never_over c (Talked b draws replies) (Polys ps) e = not_over_verdict c b draws replies (PolysReply ps) e
-never_over c (Talked b draws replies) (Values u w) e = not_over_verdict c b draws replies (ValuesReply u w) e
-never_over c (Talked b draws replies) (Refused r) e = cc e
 
 -- ---- what stands after a reply
 
@@ -197,10 +86,10 @@ progress_push c h asks ask = from Waiting asks
 
 -- the progress after one more ask that was answered
 progress_replied : (c : OrderedCircuit) (h : HelloOf) (asks : List Ask) (ask : Ask) (t : Talk) (n : ℕ) (p : Progress) → StandsNext c h asks ask t → IsOpen c t n
-    → progress c h asks ≡ p → progress c h (asks ++ ask ∷ []) ≡ progress_with p ask (Replied (honest_reply c t))
+    → progress c h asks ≡ p → progress c h (asks ++ ask ∷ []) ≡ progress_with p ask (Replied (honest_reply (about c h) t))
 progress_replied c h asks ask t n p stands is_open is =
     progress_push c h asks ask
-    ∙ (ap (progress_with (progress c h asks) ask) (honest_move c h asks ask t n stands is_open) ∙ ap (λ q. progress_with q ask (Replied (honest_reply c t))) is)
+    ∙ (ap (progress_with (progress c h asks) ask) (honest_move c h asks ask t n stands is_open) ∙ ap (λ q. progress_with q ask (Replied (honest_reply (about c h) t))) is)
 
 -- as many replies as came, under the draws so far
 pub runs_on : (c : OrderedCircuit) (h : HelloOf) (asks : List Ask) (ask : Ask) (t : Talk) (n : ℕ) → StandsNext c h asks ask t → IsOpen c t n
@@ -215,24 +104,6 @@ runs_on c h asks (Draw r) (Talked b draws replies) n (before, is, come, wants) i
     ∙ ap (Running (suc (length replies))) (sym is)
 runs_on c h asks Bye t n stands is_open = absurd stands
 
--- of what was is_open: at most as many draws as replies, all of them elements
-few_draws : (c : OrderedCircuit) (t : Talk) (n : ℕ) → IsOpen c t n
-    → All (λ r. r < modulus) (draws_in t) × (length (draws_in t) ≡ n) × (n ≤ replies_in t) × (replies_in t ≤ length (turns c.nodes (length c.order)))
-few_draws c Silent n is_open = (All-nil (λ r. r < modulus), sym is_open, omega (arith, is_open), omega arith)
-few_draws c (Talked b draws replies) n is_open = (is_open.1, is_open.2, omega (arith, is_open.3), omega (arith, is_open.0))
-
-draw_wants : (c : OrderedCircuit) (t : ℕ) → IsNextDraw next.Draw c t → wants_draw_after (turns c.nodes (length c.order)) t ≡ true
-draw_wants c t e = elim (cases_Bool (wants_draw_after (turns c.nodes (length c.order)) t)) [
-  | inl wants ↦ wants
-  | inr none ↦ let f : next.Draw ≡ next.Go = e ∙ cond-false _ _ _ none in absurd (cc f)
-]
-
-go_wants : (c : OrderedCircuit) (t : ℕ) → IsNextDraw next.Go c t → wants_draw_after (turns c.nodes (length c.order)) t ≡ false
-go_wants c t e = elim (cases_Bool (wants_draw_after (turns c.nodes (length c.order)) t)) [
-  | inl wants ↦ let f : next.Go ≡ next.Draw = e ∙ cond-true _ _ _ wants in absurd (cc f)
-  | inr none ↦ none
-]
-
 -- what stands next, where it goes on with that ask
 abbrev pub StandsAfter : OrderedCircuit → HelloOf → List Ask → Ask → Talk → ℕ → ℕ → Type 0
 StandsAfter c h asks ask t n came = StandsNext c h asks ask t × IsOpen c t n × (replies_in t ≡ suc came)
@@ -246,11 +117,6 @@ after_go c h asks ask t u n stands is_open (b, replies, is, long, left, next) =
       (omega (arith, long, few.3, left), few.0, few.1, omega (arith, long, few.2)),
       ap suc long,
     )
-
--- a draw comes after a reply of polynomials, and not after the answer
-draw_room : (c : OrderedCircuit) (t : Talk) (n : ℕ) → IsOpen c t n → wants_draw_after (turns c.nodes (length c.order)) (replies_in t) ≡ true → suc n ≤ replies_in t
-draw_room c Silent n is_open wants = absurd (cc wants)
-draw_room c (Talked b draws replies) n is_open wants = omega (arith, is_open.3)
 
 after_draw : (c : OrderedCircuit) (h : HelloOf) (asks : List Ask) (ask : Ask) (t u : Talk) (n r : ℕ) → r < modulus → StandsNext c h asks ask t → IsOpen c t n → Came c t u next.Draw
     → StandsAfter c h (asks ++ ask ∷ []) (Draw r) (with_draw u r) (suc n) (replies_in t)

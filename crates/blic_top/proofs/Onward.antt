@@ -1,44 +1,45 @@
 -- The way of a conversation, exchange by exchange.
-use Rattle.std.proofs.Common.{arith, ℕ, ◌≡◌, ◌+◌, ◌<◌, refl, sym, ◌∙◌, ap, subst, inr, List, [], ◌∷◌, ◌++◌, take, Bool, true, false, cond, append_assoc, append-nil}
+use Rattle.std.proofs.Common.{arith, ℕ, ◌≡◌, ◌+◌, ◌-◌, refl, sym, ◌∙◌, ap, subst, inl, inr, List, [], ◌∷◌, ◌++◌, length, take, Bool, true, false, cond, append_assoc, append-nil}
 use Rattle.std.specs.Prelude.{Option, Some, None}
 use Rattle.std.specs.Io.KnownBytes.{append_known}
+use Rattle.std.proofs.Math.Seq.{take-append-add}
 use Rattle.std.proofs.lemmas.Grind.{flat_map-append}
+use Rattle.std.proofs.lemmas.List.{length-append}
 use Rattle.blic_basic.proofs.Appended.{append_known-append}
-use Rattle.blic_top.specs.DrawRun.{DrawsOf, draw_from}
-use Rattle.blic_model.specs.Circuit.{OrderedCircuit}
+use Rattle.blic_basic.specs.Watching.{Adds}
 use Rattle.blic_messages.specs.Frames.{ask_spelling, reply_spelling}
 use Rattle.blic_messages.specs.Reading.{Reads}
 use Rattle.blic_messages.specs.Replies.{Said}
 use Rattle.blic_messages.specs.declared.ask.Ask.{Ask}
 use Rattle.blic_messages.specs.declared.ask.Ask.TheVariants.{Hello, Bye}
 use Rattle.blic_verifier.specs.Verdict.{Talk, Silent}
-use Rattle.blic_verifier.specs.Conversation.{Position, Awaits, Ended, beginning, honest_reply, read_on}
-use Rattle.blic_verifier.specs.Conversation.{Certified as CertifiedEnd}
-use Rattle.blic_basic.specs.Watching.{Adds}
-use Rattle.blic_top.specs.Wire.{IsCarried, Leads}
-use Rattle.blic_top.specs.World.{Shows}
-use Rattle.blic_top.specs.Printing.{frame_line, talk_text}
-use Rattle.blic_top.specs.Talking.{ArePrinted, HasCome, IsAt, IsLed, IsOnWay, IsParted, IsTalk, IsWay, IsWorthIf, lines_of, replies_in}
-use Rattle.blic_top.specs.Worth.{IsWorthOn}
-use Rattle.blic_top.proofs.Elements.{worth_on}
-use Rattle.blic_top.proofs.Exchanging.{element_drawn}
-use Rattle.blic_field.specs.Field.{modulus}
+use Rattle.blic_verifier.specs.Conversation.{Instance, Position, Awaits, Ended, beginning, honest_reply, read_on}
+use Rattle.blic_verifier.specs.declared.ending.Ending.TheVariants.{Rejected, WrongKind, WrongCount, ServerRefused, NotFrame}
+use Rattle.blic_verifier.specs.declared.ending.Ending.TheVariants.{Certified as CertifiedEnd}
+use Rattle.blic_draw.specs.DrawRun.{DrawsOf, draw_from}
+use Rattle.blic_top.specs.Deed.{Shows}
+use Rattle.blic_top.specs.Ends.{ending_of}
+use Rattle.blic_top.specs.Wire.{IsCarried, Leads, spoken_at}
+use Rattle.blic_print.specs.Printing.{frame_line, talk_text}
+use Rattle.blic_top.specs.Talking.{ArePrinted, HasCome, IsAt, IsLed, IsOnWay, IsParted, IsTalk, IsWay, instance_by, position_of}
+use Rattle.blic_verifier.specs.Asking.{replies_in}
+use Rattle.blic_top.specs.declared.outcome.Failure.{Failure}
+use Rattle.blic_top.specs.declared.outcome.Failure.TheVariants.{Rejected as RejectedSo, WrongKind as WrongKindSo, WrongCount as WrongCountSo, NotFrame as NotFrameSo}
 use Rattle.blic_top.specs.declared.conversation.Conversation.{Conversation}
 use Rattle.blic_top.specs.declared.conversation.Exchanged.TheVariants.{Asks, Ends}
 use Rattle.blic_top.specs.declared.conversation.Talked.{Talked as TalkedOf}
 use Rattle.blic_top.specs.declared.conversation.Talked.TheVariants.{Certified, Failed, Unprinted}
-use Rattle.blic_top.proofs.Printed.{front_after}
 
 -- a step more
-pub leads_more : (c : OrderedCircuit) (draw : ℕ → ℕ) (alters : Bool) (p : Position) (way : List (List ℕ)) (ask : Ask) (t : Talk) (n : ℕ) (came : List ℕ) (says : Option Said) (q : Position)
-    → Leads c draw alters p way (Awaits ask t n) → IsCarried alters (reply_spelling (honest_reply c t)) came → Reads came says → read_on c draw (Awaits ask t n) says ≡ q
-    → Leads c draw alters p (way ++ ask_spelling ask ∷ came ∷ []) q
-leads_more c draw alters p [] ask t n came says q e carried reads next =
-    subst (λ z. Leads c draw alters z (ask_spelling ask ∷ came ∷ []) q) (sym e) (refl, carried, (says, reads, next))
-leads_more c draw alters p (a ∷ []) ask t n came says q l carried reads next = absurd l
-leads_more c draw alters (Ended e) (a ∷ b ∷ way) ask t n came says q l carried reads next = absurd l
-leads_more c draw alters (Awaits asked u m) (a ∷ b ∷ way) ask t n came says q (first, second, (said, reading, rest)) carried reads next =
-    (first, second, (said, reading, leads_more c draw alters (read_on c draw (Awaits asked u m) said) way ask t n came says q rest carried reads next))
+pub leads_more : (x : Instance) (draw : ℕ → ℕ) (alters : Bool) (p : Position) (way : List (List ℕ)) (ask : Ask) (t : Talk) (n : ℕ) (came : List ℕ) (says : Option Said) (q : Position)
+    → Leads x draw alters p way (Awaits ask t n) → IsCarried alters (reply_spelling (honest_reply x t)) came → Reads came says → read_on x draw (Awaits ask t n) says ≡ q
+    → Leads x draw alters p (way ++ ask_spelling ask ∷ came ∷ []) q
+leads_more x draw alters p [] ask t n came says q e carried reads next =
+    subst (λ z. Leads x draw alters z (ask_spelling ask ∷ came ∷ []) q) (sym e) (refl, carried, (says, reads, next))
+leads_more x draw alters p (a ∷ []) ask t n came says q l carried reads next = absurd l
+leads_more x draw alters (Ended e s) (a ∷ b ∷ way) ask t n came says q l carried reads next = absurd l
+leads_more x draw alters (Awaits asked u m) (a ∷ b ∷ way) ask t n came says q (first, second, (said, reading, rest)) carried reads next =
+    (first, second, (said, reading, leads_more x draw alters (read_on x draw (Awaits asked u m) said) way ask t n came says q rest carried reads next))
 
 -- frames more
 pub shows_more : (old mid new : Option (List (List ℕ))) (xs ys : List (List ℕ)) → Shows old mid xs → Shows mid new ys → Shows old new (xs ++ ys)
@@ -56,102 +57,192 @@ shows_one old None x adds = tt
 shows_one None (Some now) x adds = absurd adds
 shows_one (Some before) (Some now) x adds = adds
 
--- lines more
-lines_more : (x : Conversation) (xs ys : List (List ℕ)) → lines_of x (xs ++ ys) ≡ lines_of x xs ++ lines_of x ys
-lines_more x xs ys = go x.talk
-  where
-    go : (b : Bool) → cond b (talk_text (xs ++ ys)) [] ≡ cond b (talk_text xs) [] ++ cond b (talk_text ys) []
-    go true = flat_map-append frame_line xs ys
-    go false = refl
+-- ---- lines
 
-pub printed_more_lines : (x y : Conversation) (old mid new : Option (List ℕ)) (xs ys : List (List ℕ)) → y.talk ≡ x.talk → mid ≡ append_known old (lines_of x xs) → new ≡ append_known mid (lines_of y ys)
-    → new ≡ append_known old (lines_of x (xs ++ ys))
-printed_more_lines x y old mid new xs ys talk before after =
-    after ∙ (ap (λ m. append_known m (lines_of y ys)) before ∙ (append_known-append old (lines_of x xs) (lines_of y ys)
-    ∙ ap (append_known old) (ap (λ b. lines_of x xs ++ cond b (talk_text ys) []) talk ∙ sym (lines_more x xs ys))))
+lines_more : (xs ys : List (List ℕ)) → talk_text (xs ++ ys) ≡ talk_text xs ++ talk_text ys
+lines_more xs ys = flat_map-append frame_line xs ys
 
-pub front_more_lines : (x y : Conversation) (old mid new : Option (List ℕ)) (xs ys : List (List ℕ)) → y.talk ≡ x.talk → mid ≡ append_known old (lines_of x xs)
-    → (n : ℕ) × (new ≡ append_known mid (take n (lines_of y ys))) → (m : ℕ) × (new ≡ append_known old (take m (lines_of x (xs ++ ys))))
-front_more_lines x y old mid new xs ys talk before (n, after) =
-    let whole : lines_of x (xs ++ ys) ≡ lines_of x xs ++ lines_of y ys = lines_more x xs ys ∙ ap (λ b. lines_of x xs ++ cond b (talk_text ys) []) (sym talk) in
-    let more = front_after old mid new (lines_of x xs) (lines_of y ys) before (n, after) in
-    (more.0, more.1 ∙ ap (λ ls. append_known old (take more.0 ls)) (sym whole))
+-- all but the last of two frames behind others
+but_last : (xs : List (List ℕ)) (a b : List ℕ) → take (length (xs ++ a ∷ b ∷ []) - 1) (xs ++ a ∷ b ∷ []) ≡ xs ++ a ∷ []
+but_last xs a b =
+    let long : length (xs ++ a ∷ b ∷ []) - 1 ≡ length xs + 1 = omega (arith, length-append xs (a ∷ b ∷ [])) in
+    ap (λ n. take n (xs ++ a ∷ b ∷ [])) long ∙ take-append-add xs (a ∷ b ∷ []) 1
+
+-- the lines of a way with an exchange more
+spoken_more : (p : Position) (xs : List (List ℕ)) (a b : List ℕ) → talk_text (spoken_at p (xs ++ a ∷ b ∷ [])) ≡ talk_text xs ++ talk_text (spoken_at p (a ∷ b ∷ []))
+spoken_more (Awaits ask t n) xs a b = lines_more xs (a ∷ b ∷ [])
+spoken_more (Ended (CertifiedEnd answer) t) xs a b = lines_more xs (a ∷ b ∷ [])
+spoken_more (Ended (Rejected place) t) xs a b = lines_more xs (a ∷ b ∷ [])
+spoken_more (Ended (WrongKind turn) t) xs a b = lines_more xs (a ∷ b ∷ [])
+spoken_more (Ended (WrongCount turn want got) t) xs a b = lines_more xs (a ∷ b ∷ [])
+spoken_more (Ended (ServerRefused r) t) xs a b = lines_more xs (a ∷ b ∷ [])
+spoken_more (Ended NotFrame t) xs a b = ap talk_text (but_last xs a b) ∙ lines_more xs (a ∷ [])
+
+cond_append : (talk : Bool) (a b : List ℕ) → cond talk (a ++ b) [] ≡ cond talk a [] ++ cond talk b []
+cond_append true a b = refl
+cond_append false a b = refl
+
+-- text behind text, if it is to be printed
+printed_more : (old mid new : Option (List ℕ)) (talk talked : Bool) (a b whole : List ℕ) → talked ≡ talk → whole ≡ a ++ b → mid ≡ append_known old (cond talk a [])
+    → new ≡ append_known mid (cond talked b []) → new ≡ append_known old (cond talk whole [])
+printed_more old mid new talk talked a b whole talks is before after =
+    after ∙ (ap (λ m. append_known m (cond talked b [])) before ∙ (append_known-append old (cond talk a []) (cond talked b [])
+    ∙ ap (append_known old) (ap (λ z. cond talk a [] ++ cond z b []) talks ∙ (sym (cond_append talk a b) ∙ ap (λ z. cond talk z []) (sym is)))))
+
+-- a prefix of a text behind one that stands whole
+pub front_behind : (old mid new : Option (List ℕ)) (talk : Bool) (a b : List ℕ) → talk ≡ true → mid ≡ append_known old (cond talk a []) → (n : ℕ) → new ≡ append_known mid (take n b)
+    → new ≡ append_known old (a ++ take n b)
+front_behind old mid new talk a b talks before n after =
+    after ∙ (ap (λ m. append_known m (take n b)) (before ∙ ap (λ z. append_known old (cond z a [])) talks) ∙ append_known-append old a (take n b))
+
+-- ---- the way
+
+pub same_instance : (x y : Conversation) → x.circuit.now ≡ y.circuit.now → x.hello ≡ y.hello → instance_by x ≡ instance_by y
+same_instance x y circuit hello = λ i. record { circuit = circuit i; hello = hello i }
+
+abbrev pub position_with : Instance → DrawsOf → Ask → Talk → Option Said → Position
+position_with x d ask t says = read_on x (draw_from d.source) (Awaits ask t d.place) says
 
 -- no frame so far
 pub at_the_start : (x : Conversation) (d : DrawsOf) (draw : ℕ → ℕ) (alters : Bool) (seen : Option (List (List ℕ))) (held : Option (List ℕ)) → d.place ≡ 0 → IsAt x d [] (Hello x.hello) Silent
     → held ≡ append_known held [] → IsOnWay x draw alters x d (Hello x.hello) seen seen held held 0
 at_the_start x d draw alters seen held place at same =
-    ([], Silent, [], at, ap (Awaits (Hello x.hello) Silent) (sym place), shows_none seen, same ∙ ap (append_known held) (sym (no_lines x)), refl)
+    ([], Silent, [], at, ap (Awaits (Hello x.hello) Silent) (sym place), shows_none seen, same ∙ ap (append_known held) (sym (no_lines x.talk)), refl)
   where
-    no_lines : (y : Conversation) → lines_of y [] ≡ []
-    no_lines y = go y.talk
-      where
-        go : (b : Bool) → cond b (talk_text []) [] ≡ []
-        go true = refl
-        go false = refl
+    no_lines : (b : Bool) → cond b (talk_text []) [] ≡ []
+    no_lines true = refl
+    no_lines false = refl
 
 pub nothing_more : (held : Option (List ℕ)) → held ≡ append_known held []
 nothing_more None = refl
 nothing_more (Some bytes) = ap Some (sym (append-nil bytes))
 
+-- where a reply leads, seen from the first position on
+from_first : (first x : Conversation) (draw : ℕ → ℕ) (d : DrawsOf) (ask : Ask) (t : Talk) (says : Option Said) → x.circuit.now ≡ first.circuit.now → x.hello ≡ first.hello → draw ≡ draw_from d.source
+    → read_on (instance_by first) draw (Awaits ask t d.place) says ≡ position_of x d ask t says
+from_first first x draw d ask t says circuit hello is_draw =
+    ap (λ z. read_on (instance_by first) z (Awaits ask t d.place) says) is_draw
+    ∙ ap (λ z. read_on z (draw_from d.source) (Awaits ask t d.place) says) (sym (same_instance x first circuit hello))
+
+carried_first : (first x : Conversation) (alters : Bool) (t : Talk) (came : List ℕ) → x.circuit.now ≡ first.circuit.now → x.hello ≡ first.hello
+    → IsCarried alters (reply_spelling (honest_reply (instance_by x) t)) came → IsCarried alters (reply_spelling (honest_reply (instance_by first) t)) came
+carried_first first x alters t came circuit hello carried = subst (λ z. IsCarried alters (reply_spelling (honest_reply z t)) came) (same_instance x first circuit hello) carried
+
 -- an exchange more
 pub onward : (first x y : Conversation) (draw : ℕ → ℕ) (alters : Bool) (d e : DrawsOf) (ask next : Ask) (seen seen_mid seen_now : Option (List (List ℕ))) (held held_mid held_now : Option (List ℕ)) (count : ℕ)
-    (asks : List Ask) (t : Talk) (way : List (List ℕ)) (came : List ℕ) → x.circuit.now ≡ first.circuit.now → x.talk ≡ first.talk → draw ≡ draw_from d.source
-    → Leads first.circuit.now draw alters (beginning first.hello) way (Awaits ask t d.place) → Shows seen seen_mid way → held_mid ≡ append_known held (lines_of first way) → replies_in t ≡ count
-    → Shows seen_mid seen_now (ask_spelling ask ∷ came ∷ []) → HasCome x y d e alters asks ask t came (Asks next) → held_now ≡ append_known held_mid (lines_of x (ask_spelling ask ∷ came ∷ []))
+    (asks : List Ask) (t : Talk) (way : List (List ℕ)) (came : List ℕ) (says : Option Said) → x.circuit.now ≡ first.circuit.now → x.hello ≡ first.hello → x.talk ≡ first.talk → draw ≡ draw_from d.source
+    → Leads (instance_by first) draw alters (beginning (instance_by first)) way (Awaits ask t d.place) → Shows seen seen_mid way → held_mid ≡ append_known held (cond first.talk (talk_text way) []) → replies_in t ≡ count
+    → Shows seen_mid seen_now (ask_spelling ask ∷ came ∷ []) → HasCome x y d e alters asks ask t came says (Asks next)
+    → ArePrinted held_mid held_now x.talk (talk_text (spoken_at (position_of x d ask t says) (ask_spelling ask ∷ came ∷ []))) (Asks next)
     → IsOnWay first draw alters y e next seen seen_now held held_now (count + 1)
-onward first x y draw alters d e ask next seen seen_mid seen_now held held_mid held_now count asks t way came circuit talk is_draw leads shown printed counted shows (carried, (says, reads, (u, is, at, more), worth)) lines = (
+onward first x y draw alters d e ask next seen seen_mid seen_now held held_mid held_now count asks t way came says circuit hello talk is_draw leads shown printed counted shows (carried, reads, (u, is, at, more)) lines = (
   asks ++ ask ∷ [],
   u,
   way ++ ask_spelling ask ∷ came ∷ [],
   at,
-  leads_more first.circuit.now draw alters (beginning first.hello) way ask t d.place came says (Awaits next u e.place) leads (subst (λ z. IsCarried alters (reply_spelling (honest_reply z t)) came) circuit carried) reads
-      (ap (λ z. read_on first.circuit.now z (Awaits ask t d.place) says) is_draw ∙ (ap (λ z. read_on z (draw_from d.source) (Awaits ask t d.place) says) (sym circuit) ∙ is)),
+  leads_more (instance_by first) draw alters (beginning (instance_by first)) way ask t d.place came says (Awaits next u e.place) leads (carried_first first x alters t came circuit hello carried) reads
+      (from_first first x draw d ask t says circuit hello is_draw ∙ is),
   shows_more seen seen_mid seen_now way (ask_spelling ask ∷ came ∷ []) shown shows,
-  printed_more_lines first x held held_mid held_now way (ask_spelling ask ∷ came ∷ []) talk printed lines,
+  printed_more held held_mid held_now first.talk x.talk (talk_text way) (talk_text (ask_spelling ask ∷ came ∷ [])) (talk_text (way ++ ask_spelling ask ∷ came ∷ [])) talk
+      (lines_more way (ask_spelling ask ∷ came ∷ [])) printed
+      (subst (λ p. held_now ≡ append_known held_mid (cond x.talk (talk_text (spoken_at p (ask_spelling ask ∷ came ∷ []))) [])) is lines),
   more ∙ omega (arith, counted),
 )
 
--- an exchange that ends it
+-- an exchange that ends it, or the last that is under way
 pub to_the_end : (first x y : Conversation) (draw : ℕ → ℕ) (alters : Bool) (d e : DrawsOf) (ask : Ask) (seen seen_mid seen_now : Option (List (List ℕ))) (held held_mid held_now : Option (List ℕ))
-    (asks : List Ask) (t : Talk) (way : List (List ℕ)) (came : List ℕ) (result : TalkedOf) → x.circuit.now ≡ first.circuit.now → x.talk ≡ first.talk → draw ≡ draw_from d.source
-    → Leads first.circuit.now draw alters (beginning first.hello) way (Awaits ask t d.place) → Shows seen seen_mid way → held_mid ≡ append_known held (lines_of first way)
-    → Shows seen_mid seen_now (ask_spelling ask ∷ came ∷ []) → HasCome x y d e alters asks ask t came (Ends result) → ArePrinted held_mid held_now (lines_of x (ask_spelling ask ∷ came ∷ [])) (Ends result)
+    (asks : List Ask) (t : Talk) (way : List (List ℕ)) (came : List ℕ) (says : Option Said) (result : TalkedOf) → x.circuit.now ≡ first.circuit.now → x.hello ≡ first.hello → x.talk ≡ first.talk → draw ≡ draw_from d.source
+    → Leads (instance_by first) draw alters (beginning (instance_by first)) way (Awaits ask t d.place) → Shows seen seen_mid way → held_mid ≡ append_known held (cond first.talk (talk_text way) [])
+    → Shows seen_mid seen_now (ask_spelling ask ∷ came ∷ []) → HasCome x y d e alters asks ask t came says (Ends result)
+    → ArePrinted held_mid held_now x.talk (talk_text (spoken_at (position_of x d ask t says) (ask_spelling ask ∷ came ∷ []))) (Ends result)
     → (all : List (List ℕ)) × Shows seen seen_now all × IsWay first draw alters all held held_now result
-to_the_end first x y draw alters d e ask seen seen_mid seen_now held held_mid held_now asks t way came result circuit talk is_draw leads shown printed shows (carried, (says, reads, led, worth)) lines =
-    (way ++ ask_spelling ask ∷ came ∷ [], shows_more seen seen_mid seen_now way (ask_spelling ask ∷ came ∷ []) shown shows, from result led lines worth)
+to_the_end first x y draw alters d e ask seen seen_mid seen_now held held_mid held_now asks t way came says result circuit hello talk is_draw leads shown printed shows (carried, reads, led) lines =
+    (way ++ ask_spelling ask ∷ came ∷ [], shows_more seen seen_mid seen_now way (ask_spelling ask ∷ came ∷ []) shown shows, from result led lines)
   where
-    to : (q : Position) → read_on x.circuit.now (draw_from d.source) (Awaits ask t d.place) says ≡ q → Leads first.circuit.now draw alters (beginning first.hello) (way ++ ask_spelling ask ∷ came ∷ []) q
-    to q is =
-        leads_more first.circuit.now draw alters (beginning first.hello) way ask t d.place came says q leads (subst (λ z. IsCarried alters (reply_spelling (honest_reply z t)) came) circuit carried) reads
-        (ap (λ z. read_on first.circuit.now z (Awaits ask t d.place) says) is_draw ∙ (ap (λ z. read_on z (draw_from d.source) (Awaits ask t d.place) says) (sym circuit) ∙ is))
+    both : List (List ℕ)
+    both = ask_spelling ask ∷ came ∷ []
 
-    from : (r : TalkedOf) → IsLed y e asks ask t (read_on x.circuit.now (draw_from d.source) (Awaits ask t d.place) says) (Ends r) → ArePrinted held_mid held_now (lines_of x (ask_spelling ask ∷ came ∷ [])) (Ends r)
-        → IsWorthIf x.circuit.now t (Ends r) says → IsWay first draw alters (way ++ ask_spelling ask ∷ came ∷ []) held held_now r
-    from (Certified b) is ls value = (
-      to _ is,
-      printed_more_lines first x held held_mid held_now way (ask_spelling ask ∷ came ∷ []) talk printed ls,
-      worth_on first.circuit.now draw alters first.hello (subst (λ z. (n : ℕ) → z n < modulus) (sym is_draw) (element_drawn d.source)) way ask t d.place came says b leads reads
-          (subst (λ z. IsWorthIf z t (Ends (Certified b)) says) circuit value),
+    same : read_on (instance_by first) draw (Awaits ask t d.place) says ≡ position_of x d ask t says
+    same = from_first first x draw d ask t says circuit hello is_draw
+
+    to : (q : Position) → position_of x d ask t says ≡ q → Leads (instance_by first) draw alters (beginning (instance_by first)) (way ++ ask_spelling ask ∷ came ∷ []) q
+    to q is =
+        leads_more (instance_by first) draw alters (beginning (instance_by first)) way ask t d.place came says q leads (carried_first first x alters t came circuit hello carried) reads (same ∙ is)
+
+    behind : (q : Position) → position_of x d ask t says ≡ q → held_now ≡ append_known held_mid (cond x.talk (talk_text (spoken_at (position_of x d ask t says) (ask_spelling ask ∷ came ∷ []))) [])
+        → held_now ≡ append_known held (cond first.talk (talk_text (spoken_at q (way ++ ask_spelling ask ∷ came ∷ []))) [])
+    behind q is ls =
+        printed_more held held_mid held_now first.talk x.talk (talk_text way) (talk_text (spoken_at q (ask_spelling ask ∷ came ∷ []))) (talk_text (spoken_at q (way ++ ask_spelling ask ∷ came ∷ []))) talk
+        (spoken_more q way (ask_spelling ask) came) printed
+        (subst (λ p. held_now ≡ append_known held_mid (cond x.talk (talk_text (spoken_at p (ask_spelling ask ∷ came ∷ []))) [])) is ls)
+
+    from : (r : TalkedOf) → IsLed y e asks ask t (position_of x d ask t says) (Ends r)
+        → ArePrinted held_mid held_now x.talk (talk_text (spoken_at (position_of x d ask t says) (ask_spelling ask ∷ came ∷ []))) (Ends r)
+        → IsWay first draw alters (way ++ ask_spelling ask ∷ came ∷ []) held held_now r
+    from (Certified b) (u, is) ls = (u, to (Ended (CertifiedEnd b) u) is, behind (Ended (CertifiedEnd b) u) is ls)
+    from (Failed failure) (u, is) ls = (u, to (Ended (ending_of failure) u) is, behind (Ended (ending_of failure) u) is ls)
+    from Unprinted is (talks, (n, ls)) = (
+      sym talk ∙ talks,
+      (
+        talk_text way,
+        talk_text (spoken_at (read_on (instance_by first) draw (Awaits ask t d.place) says) (ask_spelling ask ∷ came ∷ [])),
+        record {
+          before = way;
+          last = ask_spelling ask ∷ came ∷ [];
+          from = Awaits ask t d.place;
+          to = read_on (instance_by first) draw (Awaits ask t d.place) says;
+          way = leads;
+          step = inl (refl, (refl, carried_first first x alters t came circuit hello carried, (says, reads, refl)));
+          all = refl;
+          before_lines = refl;
+          last_lines = refl;
+        },
+        n,
+        front_behind held held_mid held_now first.talk (talk_text way) (talk_text (spoken_at (read_on (instance_by first) draw (Awaits ask t d.place) says) (ask_spelling ask ∷ came ∷ [])))
+            (sym talk ∙ talks) printed n (ls ∙ ap (λ p. append_known held_mid (take n (talk_text (spoken_at p (ask_spelling ask ∷ came ∷ []))))) (sym same)),
+      ),
     )
-    from (Failed failure) is ls value = (to _ is, printed_more_lines first x held held_mid held_now way (ask_spelling ask ∷ came ∷ []) talk printed ls)
-    from Unprinted is ls value = ((_, to _ refl), front_more_lines first x held held_mid held_now way (ask_spelling ask ∷ came ∷ []) talk printed ls)
 
 -- Bye is sent
 pub parted : (first x : Conversation) (draw : ℕ → ℕ) (alters : Bool) (seen seen_mid seen_now : Option (List (List ℕ))) (held held_mid held_now : Option (List ℕ)) (way : List (List ℕ)) (answer : Bool) (result : TalkedOf)
     → x.talk ≡ first.talk → Shows seen seen_mid way → IsWay first draw alters way held held_mid (Certified answer) → Adds seen_mid seen_now (ask_spelling Bye)
-    → IsParted held_mid held_now (lines_of x (ask_spelling Bye ∷ [])) answer result → (frames : List (List ℕ)) × Shows seen seen_now frames × IsTalk first draw alters frames held held_now result
-parted first x draw alters seen seen_mid seen_now held held_mid held_now way answer result talk shown (leads, printed, worth) adds told =
+    → IsParted held_mid held_now x.talk (talk_text (ask_spelling Bye ∷ [])) answer result → (frames : List (List ℕ)) × Shows seen seen_now frames × IsTalk first draw alters frames held held_now result
+parted first x draw alters seen seen_mid seen_now held held_mid held_now way answer result talk shown (t, leads, printed) adds told =
     (way ++ ask_spelling Bye ∷ [], shows_more seen seen_mid seen_now way (ask_spelling Bye ∷ []) shown (shows_one seen_mid seen_now (ask_spelling Bye) adds), from result told)
   where
-    from : (r : TalkedOf) → IsParted held_mid held_now (lines_of x (ask_spelling Bye ∷ [])) answer r → IsTalk first draw alters (way ++ ask_spelling Bye ∷ []) held held_now r
+    from : (r : TalkedOf) → IsParted held_mid held_now x.talk (talk_text (ask_spelling Bye ∷ [])) answer r → IsTalk first draw alters (way ++ ask_spelling Bye ∷ []) held held_now r
     from (Certified b) (same, lines) = (
-      (way, subst (λ z. Leads first.circuit.now draw alters (beginning first.hello) way (Ended (CertifiedEnd z))) (sym same) leads, refl),
-      printed_more_lines first x held held_mid held_now way (ask_spelling Bye ∷ []) talk printed lines,
-      (way, refl, subst (λ z. IsWorthOn first.circuit.now draw alters first.hello way z) (sym same) worth),
+      t,
+      (way, subst (λ z. Leads (instance_by first) draw alters (beginning (instance_by first)) way (Ended (CertifiedEnd z) t)) (sym same) leads, refl),
+      printed_more held held_mid held_now first.talk x.talk (talk_text way) (talk_text (ask_spelling Bye ∷ [])) (talk_text (way ++ ask_spelling Bye ∷ [])) talk
+          (lines_more way (ask_spelling Bye ∷ [])) printed lines,
     )
     from (Failed failure) lines = absurd lines
-    from Unprinted lines = (
-      (Ended (CertifiedEnd answer), (way, leads, inr refl)),
-      front_more_lines first x held held_mid held_now way (ask_spelling Bye ∷ []) talk printed lines,
+    from Unprinted (talks, (n, lines)) = (
+      sym talk ∙ talks,
+      (
+        talk_text way,
+        talk_text (ask_spelling Bye ∷ []),
+        record {
+          before = way;
+          last = ask_spelling Bye ∷ [];
+          from = Ended (CertifiedEnd answer) t;
+          to = Ended (CertifiedEnd answer) t;
+          way = leads;
+          step = inr (answer, t, refl, refl, refl);
+          all = refl;
+          before_lines = refl;
+          last_lines = refl;
+        },
+        n,
+        front_behind held held_mid held_now first.talk (talk_text way) (talk_text (ask_spelling Bye ∷ [])) (sym talk ∙ talks) printed n lines,
+      ),
     )
+
+-- a conversation that failed has no farewell
+pub unparted : (first : Conversation) (draw : ℕ → ℕ) (alters : Bool) (held held_now : Option (List ℕ)) (way : List (List ℕ)) (failure : Failure)
+    → IsWay first draw alters way held held_now (Failed failure) → IsTalk first draw alters way held held_now (Failed failure)
+unparted first draw alters held held_now way (RejectedSo place) (t, leads, lines) = (t, (way, leads, sym (append-nil way)), lines)
+unparted first draw alters held held_now way (WrongKindSo turn) (t, leads, lines) = (t, (way, leads, sym (append-nil way)), lines)
+unparted first draw alters held held_now way (WrongCountSo turn want got) (t, leads, lines) = (t, (way, leads, sym (append-nil way)), lines)
+unparted first draw alters held held_now way NotFrameSo (t, leads, lines) = (t, (way, leads, sym (append-nil way)), lines)

@@ -1,5 +1,5 @@
 -- Honest replies as frames.
-use Rattle.std.proofs.Common.{arith, ℕ, suc, ◌≡◌, ◌+◌, ◌-◌, ◌*◌, ◌<◌, ◌≤◌, refl, sym, ◌∙◌, ap, subst, Bool, List, ◌++◌, length, get_or, take, drop, true}
+use Rattle.std.proofs.Common.{arith, ℕ, suc, ◌≡◌, ◌+◌, ◌-◌, ◌*◌, ◌<◌, ◌≤◌, refl, sym, ◌∙◌, ap, subst, List, ◌++◌, length, get_or, take, drop, true}
 use Rattle.std.specs.Prelude.{Option, Some, None}
 use Rattle.std.proofs.Math.Seq.{take-append_seam}
 use Rattle.std.proofs.lemmas.List.{length-append, length-drop}
@@ -23,16 +23,13 @@ use Rattle.blic_messages.proofs.Bodies.{length-poly_bodies}
 use Rattle.blic_verifier.specs.HonestLaws.{HonestReplyFits, TurnsAreOfNodes}
 use Rattle.blic_verifier.specs.SoundnessLaws.{ReplyHasElements}
 use Rattle.blic_verifier.specs.Verdict.{Talk, Silent, Talked, is_in_turn, next_after, with_reply}
-use Rattle.blic_verifier.specs.Conversation.{Awaits, go_on, honest_reply, read_on, said_of}
+use Rattle.blic_verifier.specs.Conversation.{Instance, Awaits, go_on, honest_reply, read_on, said_of}
 use Rattle.blic_verifier.specs.Standing.{Verifying}
 use Rattle.blic_verifier.specs.Standing.{StandsFor as VerifierStandsFor}
 use Rattle.blic_verifier.specs.declared.next.Next.{Next}
-use Rattle.blic_verifier.specs.Accepting.{IsWorth as IsWorthFor}
-use Rattle.blic_verifier.specs.declared.next.Next.TheVariants.{Done, Over}
-use Rattle.blic_top.specs.DrawRun.{DrawsOf}
+use Rattle.blic_verifier.specs.declared.next.Next.TheVariants.{Over}
+use Rattle.blic_draw.specs.DrawRun.{DrawsOf}
 use Rattle.blic_top.specs.declared.conversation.Exchanged.{Exchanged}
-use Rattle.blic_top.specs.declared.conversation.Exchanged.TheVariants.{Asks, Ends}
-use Rattle.blic_top.specs.declared.conversation.Talked.TheVariants.{Certified, Failed, Unprinted}
 use Rattle.blic_prover.specs.Honest.{Replied, honest}
 use Rattle.blic_prover.specs.Honest.{OutOfTurn as NoTurn, NothingLeft as NoneLeft, NotServed as OtherServed, Ended as IsOver}
 use Rattle.blic_prover.specs.Moves.{move_of, said_by}
@@ -42,8 +39,10 @@ use Rattle.blic_prover.specs.declared.step.Step.TheVariants.{Reply, OutOfTurn, N
 use Rattle.blic_field.specs.Quadratic.{Quadratic}
 use Rattle.blic_prover.specs.Standing.{Proving}
 use Rattle.blic_prover.specs.Standing.{StandsFor as ProverStandsFor}
-use Rattle.blic_top.specs.Talking.{HasRoom, IsAsked, IsFollowed, IsOpen, IsTaken, IsWorthIf, StandsNext}
-use Rattle.blic_top.proofs.Following.{honest_move, never_over}
+use Rattle.blic_top.specs.Talking.{HasRoom, IsAsked, IsFollowed, IsTaken, StandsNext}
+use Rattle.blic_verifier.specs.Asking.{IsOpen}
+use Rattle.blic_top.proofs.Following.{about, honest_move}
+use Rattle.blic_verifier.proofs.GoingOn.{never_over}
 
 -- a reply for the frame: as the grammar has it, and with so many polynomials at most
 abbrev pub IsHonestReply : ℕ → Said → Type 0
@@ -63,10 +62,10 @@ of_turn c most t shaped small of_nodes some is_most inside (ForPolys k i) is (Va
 of_turn c most t shaped small of_nodes some is_most inside (ForValues k) is (PolysReply ps) fits elements = absurd fits
 of_turn c most t shaped small of_nodes some is_most inside (ForValues k) is (ValuesReply u w) fits elements = (elements, omega arith, λ r e. cc e)
 
-pub honest_is : (c : OrderedCircuit) (most : ℕ) (t : Talk) (n : ℕ) → IsShaped c.nodes (length c.order) → IsWithinLimits c.nodes (length c.order) → HonestReplyFits → TurnsAreOfNodes → SomeClaimLaw
-    → HasMostClaims c most → IsOpen c t n → IsHonestReply most (honest_reply c t)
-honest_is c most Silent n shaped small fits of_nodes some is_most is_open = (tt, omega arith, λ r e. cc e)
-honest_is c most (Talked b draws replies) n shaped small fits of_nodes some is_most is_open =
+pub honest_is : (c : OrderedCircuit) (h : HelloOf) (most : ℕ) (t : Talk) (n : ℕ) → IsShaped c.nodes (length c.order) → IsWithinLimits c.nodes (length c.order) → HonestReplyFits → TurnsAreOfNodes → SomeClaimLaw
+    → HasMostClaims c most → IsOpen c t n → IsHonestReply most (honest_reply (about c h) t)
+honest_is c h most Silent n shaped small fits of_nodes some is_most is_open = (tt, omega arith, λ r e. cc e)
+honest_is c h most (Talked b draws replies) n shaped small fits of_nodes some is_most is_open =
     let both = fits c.nodes (length c.order) shaped draws is_open.1 (length replies) is_open.0 in
     of_turn c most (length replies) shaped small of_nodes some is_most is_open.0 (get_or (turns c.nodes (length c.order)) (length replies) (ForValues 0)) refl
     (get_or (honest_replies c.nodes (length c.order) draws (suc (length replies))) (length replies) no_reply) both.0 both.1
@@ -93,10 +92,10 @@ hello_room ask h is long =
 
 -- an honest reply that is given is the one that stands there
 pub given_is : (c : OrderedCircuit) (h : HelloOf) (asks : List Ask) (ask : Ask) (t : Talk) (n : ℕ) (ps : List Quadratic) (g : Given) (s : Said) → StandsNext c h asks ask t → IsOpen c t n
-    → move_of ps (Reply g) ≡ honest c h asks ask → s ≡ said_by ps g → s ≡ honest_reply c t
+    → move_of ps (Reply g) ≡ honest c h asks ask → s ≡ said_by ps g → s ≡ honest_reply (about c h) t
 given_is c h asks ask t n ps g s stands is_open is same =
-    let moves : Replied (said_by ps g) ≡ Replied (honest_reply c t) = is ∙ honest_move c h asks ask t n stands is_open in
-    let one : said_by ps g ≡ honest_reply c t = cc in
+    let moves : Replied (said_by ps g) ≡ Replied (honest_reply (about c h) t) = is ∙ honest_move c h asks ask t n stands is_open in
+    let one : said_by ps g ≡ honest_reply (about c h) t = cc in
     same ∙ one
 
 -- no other step is taken
@@ -104,31 +103,31 @@ pub no_other : (c : OrderedCircuit) (h : HelloOf) (asks : List Ask) (ask : Ask) 
     → move_of ps x ≡ honest c h asks ask → ((g : Given) → x ≡ Reply g → ⊥) → ⊥
 no_other c h asks ask t n ps x stands is_open is not = from x refl
   where
-    moves : move_of ps x ≡ Replied (honest_reply c t)
+    moves : move_of ps x ≡ Replied (honest_reply (about c h) t)
     moves = is ∙ honest_move c h asks ask t n stands is_open
 
     from : (y : Step) → x ≡ y → ⊥
     from (Reply g) e = not g e
-    from OutOfTurn e = let m : NoTurn ≡ Replied (honest_reply c t) = ap (move_of ps) (sym e) ∙ moves in cc m
-    from NothingLeft e = let m : NoneLeft ≡ Replied (honest_reply c t) = ap (move_of ps) (sym e) ∙ moves in cc m
-    from (NotServed served other) e = let m : OtherServed served other ≡ Replied (honest_reply c t) = ap (move_of ps) (sym e) ∙ moves in cc m
-    from Ended e = let m : IsOver ≡ Replied (honest_reply c t) = ap (move_of ps) (sym e) ∙ moves in cc m
+    from OutOfTurn e = let m : NoTurn ≡ Replied (honest_reply (about c h) t) = ap (move_of ps) (sym e) ∙ moves in cc m
+    from NothingLeft e = let m : NoneLeft ≡ Replied (honest_reply (about c h) t) = ap (move_of ps) (sym e) ∙ moves in cc m
+    from (NotServed served other) e = let m : OtherServed served other ≡ Replied (honest_reply (about c h) t) = ap (move_of ps) (sym e) ∙ moves in cc m
+    from Ended e = let m : IsOver ≡ Replied (honest_reply (about c h) t) = ap (move_of ps) (sym e) ∙ moves in cc m
 
 -- the reply that was given is the one that stands there
 pub given_reply : (p : Proving) (c : OrderedCircuit) (asks : List Ask) (ask : Ask) (t : Talk) (n : ℕ) (ps : List Quadratic) (g : Given) (x : Step) (s : Said) → p.circuit ≡ c → IsAsked p asks ask t n
-    → x ≡ Reply g → ((qs : List Ask) → ProverStandsFor p qs → move_of ps x ≡ honest p.circuit p.served qs ask) → s ≡ said_by ps g → s ≡ honest_reply c t
-given_reply p c asks ask t n ps g x s same asked is says shown =
-    given_is p.circuit p.served asks ask t n ps g s asked.next asked.left (ap (move_of ps) (sym is) ∙ says asks asked.stands) shown ∙ ap (λ z. honest_reply z t) same
+    → x ≡ Reply g → ((qs : List Ask) → ProverStandsFor p qs → move_of ps x ≡ honest p.circuit p.served qs ask) → s ≡ said_by ps g → (h : HelloOf) → s ≡ honest_reply (about c h) t
+given_reply p c asks ask t n ps g x s same asked is says shown h =
+    given_is p.circuit p.served asks ask t n ps g s asked.next asked.left (ap (move_of ps) (sym is) ∙ says asks asked.stands) shown ∙ ap (λ z. honest_reply (about z h) t) same
 
 pub never : (p : Proving) (asks : List Ask) (ask : Ask) (t : Talk) (n : ℕ) (ps : List Quadratic) (x : Step) → IsAsked p asks ask t n
     → ((qs : List Ask) → ProverStandsFor p qs → move_of ps x ≡ honest p.circuit p.served qs ask) → ((g : Given) → x ≡ Reply g → ⊥) → ⊥
 never p asks ask t n ps x asked says not = no_other p.circuit p.served asks ask t n ps x asked.next asked.left (says asks asked.stands) not
 
 -- and has the shape of one
-pub honest_shape : (p : Proving) (c : OrderedCircuit) (asks : List Ask) (ask : Ask) (t : Talk) (n bytes polys : ℕ) → p.circuit ≡ c → IsShaped c.nodes (length c.order)
-    → IsWithinLimits c.nodes (length c.order) → HonestReplyFits → TurnsAreOfNodes → SomeClaimLaw → HasRoom c bytes polys → IsAsked p asks ask t n → IsHonestReply polys (honest_reply c t)
-honest_shape p c asks ask t n bytes polys same shaped small fits of_nodes some room asked =
-    honest_is c polys t n shaped small fits of_nodes some room.most (subst (λ z. IsOpen z t n) same asked.left)
+pub honest_shape : (p : Proving) (c : OrderedCircuit) (h : HelloOf) (asks : List Ask) (ask : Ask) (t : Talk) (n bytes polys : ℕ) → p.circuit ≡ c → IsShaped c.nodes (length c.order)
+    → IsWithinLimits c.nodes (length c.order) → HonestReplyFits → TurnsAreOfNodes → SomeClaimLaw → HasRoom c bytes polys → IsAsked p asks ask t n → IsHonestReply polys (honest_reply (about c h) t)
+honest_shape p c h asks ask t n bytes polys same shaped small fits of_nodes some room asked =
+    honest_is c h polys t n shaped small fits of_nodes some room.most (subst (λ z. IsOpen z t n) same asked.left)
 
 -- at most as many polynomials as the format allows
 pub few_polys : (most : ℕ) (s : Said) → IsHonestReply most s → polynomials_in s ≤ 65536
@@ -157,32 +156,22 @@ pub not_over : (v w : Verifying) (says : Option Said) (next : Next) (t : Talk) �
 not_over v w None next t stands taken e = absurd taken
 not_over v w (Some s) next t stands taken e = never_over v.circuit t s (sym (taken.1 t stands).0 ∙ e)
 
-read_said : (c : OrderedCircuit) (draw : ℕ → ℕ) (ask : Ask) (t : Talk) (n : ℕ) (s : Said) → ((r : Refusal) → s ≡ Refused r → ⊥)
-    → read_on c draw (Awaits ask t n) (Some s) ≡ go_on draw (with_reply t s) n (next_after c.nodes (length c.order) t s)
-read_said c draw ask t n (Answer b) none = refl
-read_said c draw ask t n (Polys ps) none = refl
-read_said c draw ask t n (Values u w) none = refl
-read_said c draw ask t n (Refused r) none = absurd (none r refl)
+read_said : (x : Instance) (draw : ℕ → ℕ) (ask : Ask) (t : Talk) (n : ℕ) (s : Said) → ((r : Refusal) → s ≡ Refused r → ⊥)
+    → read_on x draw (Awaits ask t n) (Some s) ≡ go_on draw (with_reply t s) n (next_after x.circuit.nodes (length x.circuit.order) t s)
+read_said x draw ask t n (Answer b) none = refl
+read_said x draw ask t n (Polys ps) none = refl
+read_said x draw ask t n (Values u w) none = refl
+read_said x draw ask t n (Refused r) none = absurd (none r refl)
 
 -- what follows on what the verifier said follows on what the frame says
-pub followed : (c : OrderedCircuit) (v w u : Verifying) (draw : ℕ → ℕ) (d : DrawsOf) (place : ℕ) (frame : List ℕ) (says : Option Said) (next : Next) (result : Exchanged) → v.circuit ≡ c
+pub followed : (x : Instance) (v w u : Verifying) (draw : ℕ → ℕ) (d : DrawsOf) (place : ℕ) (frame : List ℕ) (says : Option Said) (next : Next) (result : Exchanged) → v.circuit ≡ x.circuit
     → Reads frame says → IsTaken v w says (Some next) → ((r : Refusal) → frame ≡ reply_spelling (Refused r) → ⊥)
     → ((t : Talk) → (is_in_turn next ≡ true → VerifierStandsFor w t) → IsFollowed u d (go_on draw t place next) result)
-    → (ask : Ask) (t : Talk) → VerifierStandsFor v t → IsFollowed u d (read_on c draw (Awaits ask t place) says) result
-followed c v w u draw d place frame None next result same reads taken none follows ask t stands = absurd taken
-followed c v w u draw d place frame (Some s) next result same reads taken none follows ask t stands =
+    → (ask : Ask) (t : Talk) → VerifierStandsFor v t → IsFollowed u d (read_on x draw (Awaits ask t place) says) result
+followed x v w u draw d place frame None next result same reads taken none follows ask t stands = absurd taken
+followed x v w u draw d place frame (Some s) next result same reads taken none follows ask t stands =
     let after = taken.1 t stands in
-    let is : read_on c draw (Awaits ask t place) (Some s) ≡ go_on draw (with_reply t s) place next =
-    read_said c draw ask t place s (λ r e. none r (reads.1 ∙ ap reply_spelling e))
+    let is : read_on x draw (Awaits ask t place) (Some s) ≡ go_on draw (with_reply t s) place next =
+    read_said x draw ask t place s (λ r e. none r (reads.1 ∙ ap reply_spelling e))
     ∙ ap (go_on draw (with_reply t s) place) (ap (λ z. next_after z.nodes (length z.order) t s) (sym same) ∙ sym after.0) in
     subst (λ p. IsFollowed u d p result) (sym is) (follows (with_reply t s) after.1)
-
--- where the answer was accepted, the verifier said so of the frame, and what that is worth
-pub worth_if : (c : OrderedCircuit) (v w : Verifying) (says : Option Said) (next : Next) (result : Exchanged) (t : Talk) → v.circuit ≡ c → VerifierStandsFor v t → IsTaken v w says (Some next)
-    → ((b : Bool) → result ≡ Ends (Certified b) → next ≡ Done b) → IsWorthIf c t result says
-worth_if c v w says next (Asks ask) t same stands taken certified = tt
-worth_if c v w says next (Ends (Failed failure)) t same stands taken certified = tt
-worth_if c v w says next (Ends Unprinted) t same stands taken certified = tt
-worth_if c v w None next (Ends (Certified b)) t same stands taken certified = absurd taken
-worth_if c v w (Some s) next (Ends (Certified b)) t same stands taken certified =
-    subst (λ z. IsWorthFor z b (with_reply t s)) same ((taken.1 t stands).2 b (certified b refl))

@@ -1,6 +1,6 @@
 -- A conversation before its first ask.
 use Rattle.std.proofs.Common.{◌≡◌, refl, sym, []}
-use Rattle.blic_top.specs.DrawRun.{DrawsOf}
+use Rattle.blic_draw.specs.DrawRun.{DrawsOf}
 use Rattle.blic_model.specs.Circuit.{OrderedCircuit}
 use Rattle.blic_messages.specs.declared.ask.Hello.{Hello as HelloOf}
 use Rattle.blic_messages.specs.declared.ask.Ask.TheVariants.{Hello}

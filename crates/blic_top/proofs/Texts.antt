@@ -1,9 +1,9 @@
 -- The texts of pieces, as the outcomes' texts are written.
 use Rattle.std.proofs.Common.{◌≡◌, ℕ, List, ◌++◌, append_assoc, subst, codes, Option}
 use Rattle.std.specs.Prelude.{Result}
-use Rattle.blic_top.specs.Printing.{Prints}
+use Rattle.blic_print.specs.Printing.{Prints}
 use Rattle.blic_top.specs.Outcome.{line_end}
-use Rattle.blic_top.specs.declared.printing.WriteFault.{WriteFault}
+use Rattle.blic_print.specs.declared.write_fault.WriteFault.{WriteFault}
 
 -- what is printed is also an equal text
 pub prints_same : (old new : Option (List ℕ)) (r : Result Unit WriteFault) (text text' : List ℕ) → text ≡ text' → Prints old new r text → Prints old new r text'
@@ -32,5 +32,5 @@ leaf_text node claim = simp append_assoc
 
 pub certified_text : (mark answer vars clauses draws bad : List ℕ) → mark ≡ answer
     → mark ++ (vars ++ (codes " " ++ (clauses ++ (codes "\nruns 1\ndraws " ++ (draws ++ (codes "\nbad " ++ (bad ++ line_end)))))))
-    ≡ (answer ++ vars ++ codes " " ++ clauses ++ line_end) ++ codes "runs 1" ++ line_end ++ codes "draws " ++ draws ++ line_end ++ codes "bad " ++ bad ++ line_end
+    ≡ (answer ++ vars ++ codes " " ++ clauses ++ line_end) ++ (codes "runs 1" ++ line_end ++ codes "draws " ++ draws ++ line_end ++ codes "bad " ++ bad ++ line_end)
 certified_text mark answer vars clauses draws bad same = rw same (simp append_assoc)

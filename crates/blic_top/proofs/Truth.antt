@@ -1,5 +1,5 @@
 -- From a solved circuit to the truth of the formula.
-use Rattle.std.proofs.Common.{◌≡◌, ℕ, ◌<◌, Bool, true, false, List, refl, sym, ◌∙◌, subst, length}
+use Rattle.std.proofs.Common.{◌≡◌, ℕ, ◌<◌, Bool, true, false, List, Some, refl, sym, ◌∙◌, ap, subst, length}
 use Rattle.blic_model.specs.declared.node.Node.{Node}
 use Rattle.blic_model.specs.Formula.{PrenexFormula}
 use Rattle.blic_model.specs.Truth.{truth}
@@ -10,9 +10,10 @@ use Rattle.blic_model.specs.Shape.{IsShaped}
 use Rattle.blic_model.specs.Value.{bit, holds}
 use Rattle.blic_model.specs.Order.{IsOrdered}
 use Rattle.blic_model.specs.Laws.{RootValueIsTruth, ValueIsBoolean}
-use Rattle.blic_solve.specs.Plan.{Solved, IsPlan, IsWithin}
-use Rattle.blic_top.specs.Words.{SolveLimits}
-use Rattle.blic_top.specs.OfFile.{IsSolvable}
+use Rattle.blic_solve.specs.Plan.{IsWithin}
+use Rattle.blic_top.specs.Problem.{Problem}
+use Rattle.blic_top.specs.Jobs.{SolveLimits}
+use Rattle.blic_top.specs.Stops.{IsSolvable}
 
 -- a bit tells its truth value
 same_bit : (a b : Bool) → bit a ≡ bit b → a ≡ b
@@ -27,21 +28,18 @@ root_holds : (f : PrenexFormula) → IsFormula f → RootValueIsTruth → ValueI
 root_holds f formula root_value boolean ordered a =
     same_bit _ _ (sym (boolean (circuit_of f).nodes (length (circuit_of f).order) ordered (root (circuit_of f).nodes) a) ∙ root_value f formula (λ x. bit (a x)))
 
--- an answer of a plan of the formula's circuit is the formula's truth
-pub answer_is_truth : (f : PrenexFormula) (c : OrderedCircuit) (plan : Solved) (answer : Bool) → c ≡ circuit_of f → IsFormula f → RootValueIsTruth → ValueIsBoolean
+-- the root's value of the formula's circuit is the formula's truth
+pub answer_is_truth : (f : PrenexFormula) (c : OrderedCircuit) (answer : Bool) → c ≡ circuit_of f → IsFormula f → RootValueIsTruth → ValueIsBoolean
     → ((nodes : List Node) (levels : ℕ) → IsShaped nodes levels → IsOrdered nodes)
     → ((g : PrenexFormula) → IsFormula g → IsShaped (circuit_of g).nodes (length (circuit_of g).order))
-    → IsPlan c.nodes (length c.order) plan
-    → ((d : OrderedCircuit) → IsShaped d.nodes (length d.order) → IsPlan d.nodes (length d.order) plan → (a : ℕ → Bool) → answer ≡ holds d.nodes (root d.nodes) a)
+    → ((a : ℕ → Bool) → answer ≡ holds c.nodes (root c.nodes) a)
     → answer ≡ truth f
-answer_is_truth f c plan answer same formula root_value boolean ordered shaped is_plan tells =
-    let shape = shaped f formula in
-    let of_formula = subst (λ (d : OrderedCircuit). IsPlan d.nodes (length d.order) plan) same is_plan in
-    tells (circuit_of f) shape of_formula (λ x. false)
-    ∙ root_holds f formula root_value boolean (ordered (circuit_of f).nodes (length (circuit_of f).order) shape) (λ x. false)
+answer_is_truth f c answer same formula root_value boolean ordered shaped tells =
+    tells (λ x. false) ∙ (ap (λ (d : OrderedCircuit). holds d.nodes (root d.nodes) (λ x. false)) same
+    ∙ root_holds f formula root_value boolean (ordered (circuit_of f).nodes (length (circuit_of f).order) (shaped f formula)) (λ x. false))
 
 -- a circuit that was solved within the limits can be
-pub solvable_by : (f : PrenexFormula) (c : OrderedCircuit) (limits : SolveLimits) → c ≡ circuit_of f
-    → ((k : ℕ) → k < length c.nodes → IsWithin c.nodes (length c.order) limits.nodes limits.pairs k) → IsSolvable f limits
-solvable_by f c limits same within =
+pub solvable_by : (p : Problem) (c : OrderedCircuit) (limits : SolveLimits) → c ≡ p.circuit
+    → ((k : ℕ) → k < length c.nodes → IsWithin c.nodes (length c.order) limits.nodes limits.pairs k) → IsSolvable p (Some limits)
+solvable_by p c limits same within =
     subst (λ (d : OrderedCircuit). (k : ℕ) → k < length d.nodes → IsWithin d.nodes (length d.order) limits.nodes limits.pairs k) same within

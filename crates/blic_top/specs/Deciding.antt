@@ -1,59 +1,41 @@
 -- What there is to say once the lines before it are printed, as private contracts speak of it.
-use Rattle.std.specs.Prelude.{◌≡◌, ℕ, List, take, Option, Some, None, Result, Ok, Err}
+use Rattle.std.specs.Prelude.{◌≡◌, ℕ, List, Option, Some, None, Result, Ok, Err}
 use Rattle.std.specs.Io.KnownBytes.{append_known}
 use Rattle.blic_basic.specs.Outside.{Rose}
 use Rattle.blic_basic.specs.Seeding.{Seeds}
 use Rattle.blic_basic.specs.declared.entropy.Seeded.TheVariants as seeded
 use Rattle.blic_model.specs.Formula.{PrenexFormula}
 use Rattle.blic_qdimacs.specs.declared.error.ReadError.{ReadError}
-use Rattle.blic_top.specs.Words.{Request, SolveWords}
-use Rattle.blic_top.specs.World.{World, IsShown}
-use Rattle.blic_top.specs.OfFile.{IsFileOf, MayRefuse}
-use Rattle.blic_top.specs.Certifying.{Manner, CertifiesFormula, IsConversing}
-use Rattle.blic_top.specs.Exercising.{SaysOfOne}
-use Rattle.blic_top.specs.Means.{Means, IsUnderWay, SaysOfFormula, talk_lines}
-use Rattle.blic_top.specs.Ends.{OutcomeCounts}
+use Rattle.blic_words.specs.Requests.{Request}
+use Rattle.blic_top.specs.Problem.{Problem}
+use Rattle.blic_top.specs.Deed.{Told, Deed}
+use Rattle.blic_top.specs.Jobs.{Job, Made, certify_job, limits_of}
+use Rattle.blic_top.specs.Stops.{IsFileOf, MayRefuse}
+use Rattle.blic_top.specs.Ends.{IsPrinting, Says}
+use Rattle.blic_top.specs.Means.{IsCutOff, IsPrintingFor, Means}
+use Rattle.blic_top.specs.declared.certify.CertifyOptions.{CertifyOptions}
 use Rattle.blic_top.specs.declared.outcome.Outcome.{Outcome}
-use Rattle.blic_top.specs.declared.outcome.Outcome.TheVariants.{NotRead, Certified, Exercised}
+use Rattle.blic_top.specs.declared.outcome.Outcome.TheVariants.{Done}
+use Rattle.blic_top.specs.declared.outcome.End.TheVariants.{Certified, Exercised}
 
 -- what reading a file answers
 abbrev pub ReadsFile : Option (List ℕ → Option (List ℕ)) → List ℕ → Result PrenexFormula ReadError → Type 0
 ReadsFile files name (Ok f) = IsFileOf f files name
 ReadsFile files name (Err error) = MayRefuse files name error
 
--- of a formula: an outcome that may come, with the lines of the frames printed before it; or a conversation under way, with a front of them
-abbrev pub DecidesOfFormula : PrenexFormula → Manner → World → Option (List ℕ) → Option (List ℕ) → Option Outcome → Type 0
-DecidesOfFormula f m world old new (Some outcome) =
-    (frames : List (List ℕ)) × IsShown world frames × CertifiesFormula f m world frames outcome × (new ≡ append_known old (talk_lines m.talk frames))
-DecidesOfFormula f m world old new None =
-    (frames : List (List ℕ)) × IsShown world frames × IsConversing f m world frames × (n : ℕ) × (new ≡ append_known old (take n (talk_lines m.talk frames)))
+-- the job of certifying a problem with these options
+abbrev pub job_by : Problem → CertifyOptions → Job
+job_by p o = certify_job (Made p) (limits_of o.options) o.options.seed o.first o.options.talk
 
--- what certifying a formula said, as it is said of one of an exercise
-abbrev pub of_one : Outcome → Outcome
-of_one (Certified answer vars clauses draws bad) = Exercised answer vars clauses draws bad
-of_one outcome = outcome
+-- of a job: an outcome that may come, with the lines before it printed; or a call on the output failed in the midst of its work
+abbrev pub Decides : Job → Told → Deed → Option (List ℕ) → Option (List ℕ) → Option Outcome → Type 0
+Decides job told deed old new (Some outcome) = Says job told deed outcome × (new ≡ append_known old deed.lines)
+Decides job told deed old new None = (piece : List ℕ) × IsPrinting job told deed piece × IsCutOff deed piece old new
 
--- the number of draws in the line of one of an exercise
-abbrev pub exercised_draws : Outcome → Option ℕ
-exercised_draws (Exercised answer vars clauses draws bad) = Some draws
-exercised_draws outcome = None
-
--- of a formula of an exercise: the same, with nothing printed
-abbrev pub DecidesOfOne : PrenexFormula → Manner → World → Option (List ℕ) → Option (List ℕ) → Option Outcome → Type 0
-DecidesOfOne f m world old new (Some outcome) = (frames : List (List ℕ)) × IsShown world frames × SaysOfOne f m world frames outcome × (new ≡ old)
-DecidesOfOne f m world old new None = (frames : List (List ℕ)) × IsShown world frames × IsConversing f m world frames × (new ≡ old)
-
--- of all words: an outcome that may come, with the lines before it printed; or a conversation under way, with a front of them
-abbrev pub Decides : Option Request → World → Option (List ℕ) → Option (List ℕ) → Option Outcome → Type 0
-Decides request world old new (Some outcome) =
-    (frames : List (List ℕ)) × IsShown world frames × (lines : List ℕ) × Means request world frames lines outcome × (new ≡ append_known old lines)
-Decides request world old new None =
-    (frames : List (List ℕ)) × IsShown world frames × (lines : List ℕ) × IsUnderWay request world frames lines × (n : ℕ) × (new ≡ append_known old (take n lines))
-
--- the causes of faults: those of the files, of the entropy and of the output
-abbrev pub DecideCounts : ℕ → ℕ → ℕ → ℕ → ℕ → ℕ → Option Outcome → Type 0
-DecideCounts files files_now seeds seeds_now written written_now (Some outcome) = OutcomeCounts files files_now seeds seeds_now outcome × (written_now ≡ written)
-DecideCounts files files_now seeds seeds_now written written_now None = (files_now ≡ files) × (seeds_now ≡ seeds) × Rose written written_now
+-- of a whole request
+abbrev pub DecidesAll : Option Request → Told → Deed → Option (List ℕ) → Option (List ℕ) → Option Outcome → Type 0
+DecidesAll request told deed old new (Some outcome) = Means request told deed outcome × (new ≡ append_known old deed.lines)
+DecidesAll request told deed old new None = (piece : List ℕ) × IsPrintingFor request told deed piece × IsCutOff deed piece old new
 
 -- the seed is the one that is given, and no other is taken; or the next one that comes, if any does
 abbrev pub IsSeeded : Option (List ℕ) → Option (ℕ → Option (List ℕ)) → Option (ℕ → Option (List ℕ)) → Option (List ℕ) → Type 0
@@ -67,7 +49,12 @@ abbrev pub SeedingCounts : ℕ → ℕ → Option (List ℕ) → Type 0
 SeedingCounts before now (Some seed) = now ≡ before
 SeedingCounts before now None = Rose before now
 
--- what solving the formula of a file may say
-abbrev pub SolvesFile : Option (List ℕ → Option (List ℕ)) → SolveWords → Outcome → Type 0
-SolvesFile files w (NotRead error) = MayRefuse files w.file error
-SolvesFile files w outcome = (f : PrenexFormula) × IsFileOf f files w.file × SaysOfFormula f w.limits outcome
+-- what certifying a problem said, as it is said of one of an exercise
+abbrev pub of_one : Outcome → Outcome
+of_one (Done (Certified a n)) = Done (Exercised a n)
+of_one outcome = outcome
+
+-- the number of draws in the line of one of an exercise
+abbrev pub exercised_draws : Outcome → Option ℕ
+exercised_draws (Done (Exercised a n)) = Some n.draws
+exercised_draws outcome = None

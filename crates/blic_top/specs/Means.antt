@@ -1,57 +1,65 @@
--- When each outcome may come. `frames` are those that the watch saw in the run, and `lines` what is printed before the final lines.
-use Rattle.std.specs.Prelude.{◌≡◌, ℕ, Bool, cond, List, [], length, Option, Some, None}
-use Rattle.blic_model.specs.Formula.{PrenexFormula}
-use Rattle.blic_model.specs.Truth.{truth}
-use Rattle.blic_top.specs.Words.{SolveLimits, Request, Solve, Certify, Exercise}
-use Rattle.blic_top.specs.World.{World, IsQuiet}
-use Rattle.blic_top.specs.OfFile.{IsFileOf, MayRefuse, HasSmallCircuit, HasManyClaimsAt, HasPointsOver, IsSolvable, HasManyPairsAt, HasManyNodesAt}
-use Rattle.blic_top.specs.Certifying.{CertifiesFormula, IsConversing, manner_of}
-use Rattle.blic_top.specs.Exercising.{IsExercising, SaysOfBoth}
-use Rattle.blic_top.specs.Printing.{talk_text}
+-- What a run may say: of each request as a list of jobs, one after another.
+use Rattle.std.specs.Prelude.{◌≡◌, ℕ, Bool, true, false, List, [], ◌∷◌, ◌++◌, take, Option, Some, None, ◌⊎◌}
+use Rattle.std.specs.Io.KnownBytes.{append_known}
+use Rattle.blic_words.specs.Requests.{Request}
+use Rattle.blic_top.specs.Deed.{Told, Deed, nothing, AreJoined}
+use Rattle.blic_top.specs.Jobs.{Job, first_job, later_jobs}
+use Rattle.blic_top.specs.Ends.{IsPrinting, Says}
+use Rattle.blic_top.specs.Outcome.{status_of, text_of}
+use Rattle.blic_top.specs.declared.outcome.End.TheVariants.{Exercised}
 use Rattle.blic_top.specs.declared.outcome.Outcome.{Outcome}
-use Rattle.blic_top.specs.declared.outcome.Outcome.TheVariants.{Usage, NotRead, TooManyClaims, TooManyPoints, TooManyPairs, TooManyNodes, EntropyFault, NoMemory, Solved, Certified as CertifiedOutcome, NotCertified, Exercised}
+use Rattle.blic_top.specs.declared.outcome.Outcome.TheVariants.{Usage, NoMemory, Stopped, Done}
 
--- what solving the formula within the limits may say
-abbrev pub SaysOfFormula : PrenexFormula → SolveLimits → Outcome → Type 0
-SaysOfFormula f limits (Solved t vars clauses) = HasSmallCircuit f × IsSolvable f limits × (t ≡ truth f) × (vars ≡ f.vars) × (clauses ≡ length f.clauses)
-SaysOfFormula f limits (TooManyClaims node count) = HasManyClaimsAt f node count
-SaysOfFormula f limits (TooManyPoints count) = HasPointsOver f count
-SaysOfFormula f limits (TooManyPairs node) = HasSmallCircuit f × HasManyPairsAt f limits node
-SaysOfFormula f limits (TooManyNodes node) = HasSmallCircuit f × HasManyNodesAt f limits node
-SaysOfFormula f limits NoMemory = Unit {0}
-SaysOfFormula f limits Usage = ⊥
-SaysOfFormula f limits (NotRead error) = ⊥
-SaysOfFormula f limits EntropyFault = ⊥
-SaysOfFormula f limits (CertifiedOutcome t vars clauses draws bad) = ⊥
-SaysOfFormula f limits (NotCertified failure) = ⊥
-SaysOfFormula f limits (Exercised t vars clauses draws bad) = ⊥
+-- whether the next job is begun
+abbrev pub goes_on : Outcome → Bool
+goes_on (Done (Exercised a n)) = true
+goes_on _ = false
 
--- what may be said of a file, by what may be said of the formula that it spells
-abbrev pub SaysOfFile : World → List ℕ → (PrenexFormula → Outcome → Type 0) → List (List ℕ) → Outcome → Type 0
-SaysOfFile world name says frames (NotRead error) = MayRefuse world.files name error × IsQuiet world frames
-SaysOfFile world name says frames NoMemory = IsQuiet world frames
-SaysOfFile world name says frames Usage = ⊥
-SaysOfFile world name says frames outcome = (f : PrenexFormula) × IsFileOf f world.files name × says f outcome
+-- a job was done, its line was printed, and the rest of the run did the rest
+pub record IsBegun (job : Job) (told : Told) (deed late : Deed) : Type 0 where
+  pub early : Deed
+  pub first : Outcome
+  pub goes : goes_on first ≡ true
+  pub says : Says job told early first
+  pub joined : AreJoined deed early (text_of first) late
 
--- with `--talk` a line for each frame
-abbrev pub talk_lines : Bool → List (List ℕ) → List ℕ
-talk_lines talk frames = cond talk (talk_text frames) []
+-- the jobs one after another: one ends the run, or its line is printed, and the next one is begun
+abbrev pub SaysAll : List Job → Told → Deed → Outcome → Type 0
+SaysAll [] told deed outcome = ⊥
+SaysAll (job ∷ []) told deed outcome = Says job told deed outcome
+SaysAll (job ∷ next ∷ jobs) told deed outcome =
+    ((goes_on outcome ≡ false) × Says job told deed outcome)
+    ⊎ ((late : Deed) × IsBegun job told deed late × SaysAll (next ∷ jobs) told late outcome)
 
--- what may be said, and what comes before it, where the words ask for this, or for nothing since they don't fit
-abbrev pub Means : Option Request → World → List (List ℕ) → List ℕ → Outcome → Type 0
-Means (Some (Solve w)) world frames lines outcome =
-    SaysOfFile world w.file (λ f o. SaysOfFormula f w.limits o × IsQuiet world frames) frames outcome × (lines ≡ [])
-Means (Some (Certify w)) world frames lines outcome =
-    SaysOfFile world w.file (λ f o. CertifiesFormula f (manner_of w) world frames o) frames outcome × (lines ≡ talk_lines w.talk frames)
-Means (Some (Exercise w)) world frames lines outcome = SaysOfBoth w world frames lines outcome
-Means None world frames lines Usage = IsQuiet world frames × (lines ≡ [])
-Means None world frames lines NoMemory = IsQuiet world frames × (lines ≡ [])
-Means None world frames lines outcome = ⊥
+-- what is printed before the last lines, behind what stands whole: lines of a job at work; the line of one after which the next is begun
+abbrev pub IsPrintingIn : List Job → Told → Deed → List ℕ → Type 0
+IsPrintingIn [] told deed piece = ⊥
+IsPrintingIn (job ∷ []) told deed piece = IsPrinting job told deed piece
+IsPrintingIn (job ∷ next ∷ jobs) told deed piece =
+    IsPrinting job told deed piece
+    ⊎ ((first : Outcome) × (goes_on first ≡ true) × Says job told deed first × (piece ≡ text_of first))
+    ⊎ ((late : Deed) × IsBegun job told deed late × IsPrintingIn (next ∷ jobs) told late piece)
 
--- a conversation is under way with these frames, and these are the lines so far
-abbrev pub IsUnderWay : Option Request → World → List (List ℕ) → List ℕ → Type 0
-IsUnderWay (Some (Certify w)) world frames lines =
-    ((f : PrenexFormula) × IsFileOf f world.files w.file × IsConversing f (manner_of w) world frames) × (lines ≡ talk_lines w.talk frames)
-IsUnderWay (Some (Exercise w)) world frames lines = IsExercising w world frames lines
-IsUnderWay (Some (Solve w)) world frames lines = ⊥
-IsUnderWay None world frames lines = ⊥
+-- what may be said of a request, or of words that don't fit
+abbrev pub Means : Option Request → Told → Deed → Outcome → Type 0
+Means (Some r) told deed outcome = SaysAll (first_job r ∷ later_jobs r) told deed outcome
+Means None told deed Usage = deed ≡ nothing
+Means None told deed NoMemory = deed ≡ nothing
+Means None told deed (Stopped stop) = ⊥
+Means None told deed (Done end) = ⊥
+
+abbrev pub IsPrintingFor : Option Request → Told → Deed → List ℕ → Type 0
+IsPrintingFor (Some r) told deed piece = IsPrintingIn (first_job r ∷ later_jobs r) told deed piece
+IsPrintingFor None told deed piece = ⊥
+
+-- a call on the output failed while this piece was printed: all that stands before it is appended whole, and a prefix of the piece
+abbrev pub IsCutOff : Deed → List ℕ → Option (List ℕ) → Option (List ℕ) → Type 0
+IsCutOff deed piece old new = (n : ℕ) × (new ≡ append_known old (deed.lines ++ take n piece))
+
+-- some outcome came, its status is answered, and its whole text is appended behind the lines before it; or the status is 4, and a call on
+-- the output failed at the outcome's text or at a piece before it
+abbrev pub Runs : Option Request → Told → Deed → ℕ → Option (List ℕ) → Option (List ℕ) → Type 0
+Runs request told deed status old new =
+    ((outcome : Outcome) × Means request told deed outcome × (status ≡ status_of outcome) × (new ≡ append_known old (deed.lines ++ text_of outcome)))
+    ⊎ ((status ≡ 4) × ((outcome : Outcome) × Means request told deed outcome × IsCutOff deed (text_of outcome) old new))
+    ⊎ ((status ≡ 4) × ((piece : List ℕ) × IsPrintingFor request told deed piece × IsCutOff deed piece old new))

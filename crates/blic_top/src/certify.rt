@@ -1,74 +1,62 @@
 // Certifying a formula by a conversation in one process.
 ghost use Rattle.std.specs.Prelude.{◌≡◌, ◌<◌, ◌≤◌, ◌^◌, ℕ, List, [], Some, None};
 ghost use Rattle.blic_messages.specs.declared.ask.Ask.TheVariants.{Hello as AskHello};
-ghost use Rattle.blic_model.specs.Building.{circuit_of};
+ghost use Rattle.blic_prover.specs.Standing.{GoesOn};
 ghost use Rattle.blic_verifier.specs.Verdict.{Silent};
-ghost use Rattle.blic_top.specs.Asked.{manner_by};
-ghost use Rattle.blic_top.specs.Deciding.{DecideCounts, DecidesOfFormula, IsSeeded, SeedingCounts};
-ghost use Rattle.blic_top.specs.DrawRun.{DrawsOf, draw_from};
-ghost use Rattle.blic_top.specs.OfFile.{HasSmallCircuit};
-ghost use Rattle.blic_top.specs.Certifying.{CanCertify};
+ghost use Rattle.blic_top.specs.Deciding.{Decides, IsSeeded, SeedingCounts, job_by};
+ghost use Rattle.blic_top.specs.Deed.{Deed, Shows, IsDeed};
+ghost use Rattle.blic_draw.specs.DrawRun.{DrawsOf, draw_from};
+ghost use Rattle.blic_top.specs.Faults.{Counts, Entropy as TheEntropy, Files as TheFiles, WriteCounts, fault_in};
+ghost use Rattle.blic_top.specs.Problem.{problem_of};
+ghost use Rattle.blic_top.specs.Stops.{CanStart, HasSmallCircuit};
 ghost use Rattle.blic_top.specs.Talking.{IsAt, IsFitted, IsTalk, TalkCounts};
-ghost use Rattle.blic_top.specs.World.{Shows};
 
 use crate::conversation::{Conversation, Talked};
-use crate::draw_run::DrawRun;
-use crate::outcome::Outcome;
+use crate::outcome::{Answer, End, Outcome, Stop, Tally};
 use blic_basic::{Entropy, Seeded, Sink, Steps, Watch};
 use blic_circuit::build;
 use blic_claims::{Answers, Layout, claims_law};
+use blic_draw::DrawRun;
 use blic_engine::{Desk, Engine};
 use blic_messages::{Hello, frames_law};
-use blic_model::{Circuit, CircuitError, Formula, circuit_law};
+use blic_model::{Circuit, Formula, circuit_law};
 use blic_qdimacs::name_of;
-use blic_solve::SolveError;
-use blic_verifier::{acceptance_law, honest_reply_law};
+use blic_verifier::{acceptance_law, certified_law, honest_reply_law};
+use blic_words::Options;
 use std::alloc::Global;
 use std::marker::Brand;
 use std::sync::ledger::{Blank, Ledger};
 
-/// How many cells an engine is manner for. This version's engine uses none.
+/// How many cells an engine is asked for. This version's engine uses none.
 const CELLS: u32 = 4096;
 
-/// How a formula is certified: how many decisions and pairs solving may take, a seed where one is given, which
-/// of its draws is the first, and whether the frames are to be printed.
+/// How a formula is certified: the options, and which of the seed's draws is the first.
 #[derive(Clone, Copy)]
-pub(crate) struct Manner {
-    pub(crate) nodes: u32,
-    pub(crate) pairs: u32,
-    pub(crate) seed: Option<[u8; 32]>,
+pub(crate) struct CertifyOptions {
+    pub(crate) options: Options,
     pub(crate) first: u64,
-    pub(crate) talk: bool,
 }
 
 /// Certifies the formula, where its circuit can be solved within the limits. `None` where a line of the conversation could not be printed.
 pub(crate) fn certify_formula<E: Entropy, W: Watch, O: Sink>(
     alloc: Global,
     formula: &Formula,
-    manner: &Manner,
+    options: &CertifyOptions,
     entropy: &mut E,
     watch: &mut W,
     out: &mut O,
 ) -> Option<Outcome>
-    requires first { manner.now.first ≤ 2 ^ 61 }
+    requires first { options.now.first ≤ 2 ^ 61 }
     ensures alters { W.alters watch.new ≡ W.alters watch.old }
-    ensures decides { DecidesOfFormula formula.now (manner_by manner.now) (record {
-      files = None;
-      seeds = E.seeds entropy.old;
-      seeds_after = E.seeds entropy.new;
-      alters = W.alters watch.old;
-      seen = W.frames watch.old;
-      seen_after = W.frames watch.new;
-    }) (O.held out.old) (O.held out.new) result }
-    ensures cause { DecideCounts 0 0 (E.faults entropy.old) (E.faults entropy.new) (O.faults out.old) (O.faults out.new) result }
+    ensures decides { (deed : Deed) × IsDeed (E.seeds entropy.old) (E.seeds entropy.new) (W.frames watch.old) (W.frames watch.new) deed
+        × Decides (job_by (problem_of formula.now) options.now) (record { files = None; alters = W.alters watch.old }) deed (O.held out.old) (O.held out.new) result }
+    ensures entropy_cause { Counts TheEntropy (fault_in result) (E.faults entropy.old) (E.faults entropy.new) }
+    ensures write_cause { WriteCounts result (O.faults out.old) (O.faults out.new) }
+    ensures no_read_fault { (n : ℕ) → Counts TheFiles (fault_in result) n n }
 {
     match build(alloc, formula, 0, 1) {
-        Ok(circuit) => certify_circuit(alloc, formula, &circuit, manner, entropy, watch, out),
-        Err(CircuitError::TooManyClaims { node, claims }) => {
-            Some(Outcome::TooManyClaims(node, claims))
-        }
-        Err(CircuitError::TooManyPoints { points }) => Some(Outcome::TooManyPoints(points)),
-        Err(CircuitError::NoMem) => Some(Outcome::NoMemory),
+        Ok(circuit) => certify_circuit(alloc, formula, &circuit, options, entropy, watch, out),
+        Err(error) => Some(Outcome::Stopped(Stop::NotBuilt(error))),
     }
 }
 
@@ -77,32 +65,27 @@ fn certify_circuit<E: Entropy, W: Watch, O: Sink>(
     alloc: Global,
     formula: &Formula,
     circuit: &Circuit,
-    manner: &Manner,
+    options: &CertifyOptions,
     entropy: &mut E,
     watch: &mut W,
     out: &mut O,
 ) -> Option<Outcome>
-    requires circuit { circuit.now ≡ circuit_of formula.now }
-    requires small { HasSmallCircuit formula.now }
-    requires first { manner.now.first ≤ 2 ^ 61 }
+    requires circuit { circuit.now ≡ (problem_of formula.now).circuit }
+    requires small { HasSmallCircuit (problem_of formula.now) }
+    requires first { options.now.first ≤ 2 ^ 61 }
     ensures alters { W.alters watch.new ≡ W.alters watch.old }
-    ensures decides { DecidesOfFormula formula.now (manner_by manner.now) (record {
-      files = None;
-      seeds = E.seeds entropy.old;
-      seeds_after = E.seeds entropy.new;
-      alters = W.alters watch.old;
-      seen = W.frames watch.old;
-      seen_after = W.frames watch.new;
-    }) (O.held out.old) (O.held out.new) result }
-    ensures cause { DecideCounts 0 0 (E.faults entropy.old) (E.faults entropy.new) (O.faults out.old) (O.faults out.new) result }
+    ensures decides { (deed : Deed) × IsDeed (E.seeds entropy.old) (E.seeds entropy.new) (W.frames watch.old) (W.frames watch.new) deed
+        × Decides (job_by (problem_of formula.now) options.now) (record { files = None; alters = W.alters watch.old }) deed (O.held out.old) (O.held out.new) result }
+    ensures entropy_cause { Counts TheEntropy (fault_in result) (E.faults entropy.old) (E.faults entropy.new) }
+    ensures write_cause { WriteCounts result (O.faults out.old) (O.faults out.new) }
+    ensures no_read_fault { (n : ℕ) → Counts TheFiles (fault_in result) n n }
 {
-    match Engine::new(alloc, circuit, manner.nodes, manner.pairs, CELLS) {
+    let Options { nodes, pairs, .. } = options.options;
+    match Engine::new(alloc, circuit, nodes, pairs, CELLS) {
         Ok(engine) => converse(
-            alloc, formula, circuit, &engine, manner, entropy, watch, out,
+            alloc, formula, circuit, &engine, options, entropy, watch, out,
         ),
-        Err(SolveError::PairLimit { node }) => Some(Outcome::TooManyPairs(node)),
-        Err(SolveError::NodeLimit { node }) => Some(Outcome::TooManyNodes(node)),
-        Err(SolveError::NoMem) => Some(Outcome::NoMemory),
+        Err(error) => Some(Outcome::Stopped(Stop::NotSolved(error))),
     }
 }
 
@@ -112,25 +95,21 @@ fn converse<E: Entropy, W: Watch, O: Sink>(
     formula: &Formula,
     circuit: &Circuit,
     engine: &Engine<'_>,
-    manner: &Manner,
+    options: &CertifyOptions,
     entropy: &mut E,
     watch: &mut W,
     out: &mut O,
 ) -> Option<Outcome>
-    requires circuit { circuit.now ≡ circuit_of formula.now }
+    requires circuit { circuit.now ≡ (problem_of formula.now).circuit }
     requires engine { engine.now ≡ circuit.now }
-    requires can { CanCertify formula.now (record { nodes = manner.now.nodes; pairs = manner.now.pairs }) }
-    requires first { manner.now.first ≤ 2 ^ 61 }
+    requires can { CanStart (problem_of formula.now) (job_by (problem_of formula.now) options.now).task }
+    requires first { options.now.first ≤ 2 ^ 61 }
     ensures alters { W.alters watch.new ≡ W.alters watch.old }
-    ensures decides { DecidesOfFormula formula.now (manner_by manner.now) (record {
-      files = None;
-      seeds = E.seeds entropy.old;
-      seeds_after = E.seeds entropy.new;
-      alters = W.alters watch.old;
-      seen = W.frames watch.old;
-      seen_after = W.frames watch.new;
-    }) (O.held out.old) (O.held out.new) result }
-    ensures cause { DecideCounts 0 0 (E.faults entropy.old) (E.faults entropy.new) (O.faults out.old) (O.faults out.new) result }
+    ensures decides { (deed : Deed) × IsDeed (E.seeds entropy.old) (E.seeds entropy.new) (W.frames watch.old) (W.frames watch.new) deed
+        × Decides (job_by (problem_of formula.now) options.now) (record { files = None; alters = W.alters watch.old }) deed (O.held out.old) (O.held out.new) result }
+    ensures entropy_cause { Counts TheEntropy (fault_in result) (E.faults entropy.old) (E.faults entropy.new) }
+    ensures write_cause { WriteCounts result (O.faults out.old) (O.faults out.new) }
+    ensures no_read_fault { (n : ℕ) → Counts TheFiles (fault_in result) n n }
 {
     formula.is_within_limits();
     circuit.is_within_limits();
@@ -139,6 +118,8 @@ fn converse<E: Entropy, W: Watch, O: Sink>(
     frames_law();
     honest_reply_law();
     acceptance_law();
+    certified_law();
+    let Options { seed, talk, .. } = options.options;
     let Ok(layout) = Layout::new(alloc, circuit) else {
         return Some(Outcome::NoMemory);
     };
@@ -151,31 +132,35 @@ fn converse<E: Entropy, W: Watch, O: Sink>(
         order: 0,
         digest,
     };
-    let Ok(mut conversation) = Conversation::new(alloc, circuit, &layout, hello, manner.talk) else {
+    let Ok(mut conversation) = Conversation::new(alloc, circuit, &layout, hello, talk) else {
         return Some(Outcome::NoMemory);
     };
     let Ok(mut answers) = Desk::new(alloc, &*engine, 0) else {
         return Some(Outcome::NoMemory);
     };
-    let Some(seed) = seed_of(manner.seed, entropy) else {
-        return Some(Outcome::EntropyFault);
+    let Some(seed) = seed_of(seed, entropy) else {
+        return Some(Outcome::Stopped(Stop::NoSeed));
     };
     match hold(
         &mut conversation,
         &mut answers,
         seed,
-        manner.first,
+        options.first,
         watch,
         out,
     ) {
-        Talked::Certified(answer) => Some(Outcome::Certified(
-            answer,
-            formula.vars(),
-            formula.clause_count(),
-            layout.draws(),
-            layout.bad(),
-        )),
-        Talked::Failed(failure) => Some(Outcome::NotCertified(failure)),
+        Talked::Certified(truth) => Some(Outcome::Done(End::Certified(
+            Answer {
+                truth,
+                vars: formula.vars(),
+                clauses: formula.clause_count(),
+            },
+            Tally {
+                draws: layout.draws(),
+                bad: layout.bad(),
+            },
+        ))),
+        Talked::Failed(failure) => Some(Outcome::Done(End::Failed(failure))),
         Talked::Unprinted => None,
     }
 }
@@ -207,6 +192,7 @@ fn hold<A: Answers, W: Watch, O: Sink>(
     requires fitted { IsFitted conversation.old }
     requires answers { A.circuit answers.old ≡ conversation.old.circuit.now }
     requires silent { (d : DrawsOf) → d.place ≡ 0 → IsAt conversation.old d [] (AskHello conversation.old.hello) Silent }
+    requires goes_on { GoesOn (A.goes_on answers.old) conversation.old.prover }
     ensures alters { W.alters watch.new ≡ W.alters watch.old }
     ensures talk { (frames : List (List ℕ)) × Shows (W.frames watch.old) (W.frames watch.new) frames
         × IsTalk conversation.old (draw_from (record { seed = seed; first = first })) (W.alters watch.old) frames (O.held out.old) (O.held out.new) result }
@@ -239,6 +225,7 @@ fn hold_counted<A: Answers, W: Watch, O: Sink, L: Ledger>(
     requires fitted { IsFitted conversation.old }
     requires answers { A.circuit answers.old ≡ conversation.old.circuit.now }
     requires silent { (d : DrawsOf) → d.place ≡ 0 → IsAt conversation.old d [] (AskHello conversation.old.hello) Silent }
+    requires goes_on { GoesOn (A.goes_on answers.old) conversation.old.prover }
     ensures alters { W.alters watch.new ≡ W.alters watch.old }
     ensures talk { (frames : List (List ℕ)) × Shows (W.frames watch.old) (W.frames watch.new) frames
         × IsTalk conversation.old (draw_from (record { seed = seed; first = first })) (W.alters watch.old) frames (O.held out.old) (O.held out.new) result }

@@ -1,7 +1,7 @@
 // Prover and verifier in one process: each frame that a link would carry is made, shown to a watch and judged.
-ghost use Rattle.std.specs.Prelude.{◌≡◌, ◌≢◌, ◌≤◌, ◌+◌, ◌*◌, ◌<◌, ◌^◌, ◌∷◌, ◌++◌, [], ℕ, Bool, List, Option, length, take, true, false, IfOk, slice_index};
+ghost use Rattle.std.specs.Prelude.{◌≡◌, ◌≢◌, ◌≤◌, ◌+◌, ◌*◌, ◌<◌, ◌^◌, ◌∷◌, ◌++◌, [], ℕ, Bool, List, Option, cond, length, take, true, false, IfErr, IfOk, slice_index};
 ghost use Rattle.blic_basic.specs.Watching.{Adds};
-ghost use Rattle.blic_top.specs.DrawRun.{DrawsOf, draw_from};
+ghost use Rattle.blic_draw.specs.DrawRun.{DrawsOf, draw_from};
 ghost use Rattle.blic_claims.specs.Places.{layout_of};
 ghost use Rattle.blic_messages.specs.Frames.{ask_spelling, reply_spelling};
 ghost use Rattle.blic_messages.specs.Reading.{Reads};
@@ -9,24 +9,26 @@ ghost use Rattle.blic_messages.specs.Replies.{Said, Refused};
 ghost use Rattle.blic_messages.specs.declared.reply.Refusal.{Refusal as RefusalOf};
 ghost use Rattle.blic_messages.specs.declared.ask.Ask.TheVariants.{Hello as AskHello, Bye as AskBye};
 ghost use Rattle.blic_messages.specs.declared.ask.Ask.{Ask as AskOf};
-ghost use Rattle.blic_prover.specs.Standing.{StandsFor as ProverStandsFor};
+ghost use Rattle.blic_messages.specs.declared.ask.Hello.{Hello as HelloOf};
+ghost use Rattle.blic_prover.specs.Standing.{GoesOn, StandsFor as ProverStandsFor};
+ghost use Rattle.blic_prover.specs.declared.stage.Stage.TheVariants.{Fresh as FreshProver};
 ghost use Rattle.blic_verifier.specs.Verdict.{Talk, Silent, is_in_turn};
 ghost use Rattle.blic_verifier.specs.Standing.{StandsFor as VerifierStandsFor, is_over, wants_draw};
-ghost use Rattle.blic_verifier.specs.Conversation.{Awaits, go_on as goes_on, honest_reply, read_on};
-ghost use Rattle.blic_top.specs.Printing.{Prints, PrintCounts, talk_text};
-ghost use Rattle.blic_top.specs.Talking.{ArePrinted, ExchangeCounts, HasCome, HasRoom, IsAsked, IsAt, IsFitted, IsFollowed, IsParted, IsSaidOf, IsSame, IsTaken, IsTalk, IsWay, IsWorthIf, TalkCounts, lines_of};
-ghost use Rattle.blic_top.specs.Wire.{IsCarried};
-ghost use Rattle.blic_top.specs.World.{Shows};
+ghost use Rattle.blic_verifier.specs.Conversation.{go_on as goes_on, honest_reply};
+ghost use Rattle.blic_print.specs.Printing.{Prints, PrintCounts, talk_text};
+ghost use Rattle.blic_top.specs.Talking.{ArePrinted, ExchangeCounts, HasCome, HasRoom, IsAsked, IsAt, IsFitted, IsFollowed, IsParted, IsSaidOf, IsSame, IsTaken, IsTalk, IsWay, TalkCounts, exchange_text, instance_by, position_of};
+ghost use Rattle.blic_top.specs.Wire.{IsCarried, spoken_at};
+ghost use Rattle.blic_top.specs.Deed.{Shows};
 
-use crate::draw_run::DrawRun;
 use crate::outcome::Failure;
-use crate::printing::{WriteFault, print_frame};
 use blic_basic::{NoMem, Sink, Steps, Watch};
 use blic_claims::{Answers, Layout, claims_law};
+use blic_draw::DrawRun;
 use blic_field::Fe;
 use blic_messages::{Ask, Hello, decode_reply, encode_ask, encode_reply};
 use blic_model::Circuit;
 use blic_poly2::Poly2;
+use blic_print::{WriteFault, print_frame};
 use blic_prover::{Prover, Step};
 use blic_verifier::{Next, Verifier, honest_reply_law};
 use std::alloc::Global;
@@ -62,7 +64,6 @@ pub(crate) struct Conversation<'c> {
     verifier: Verifier<'c>,
     frame: Vec<u8>,
     polys: Vec<Poly2>,
-    hex: Vec<u8>,
     talk: bool,
 }
 
@@ -80,6 +81,7 @@ impl<'c> Conversation<'c> {
         ensures fitted { IfOk result (λ x. IsFitted x) }
         ensures same { IfOk result (λ x. (x.circuit.now ≡ circuit.now) × (x.hello ≡ hello) × (x.talk ≡ talk)) }
         ensures silent { IfOk result (λ x. (d : DrawsOf) → d.place ≡ 0 → IsAt x d [] (AskHello hello) Silent) }
+        ensures fresh { IfOk result (λ x. x.prover.stage ≡ FreshProver) }
     {
         let most = layout.most_claims(circuit) as usize;
         let room = LONGEST_ASK + 24 * most;
@@ -96,7 +98,6 @@ impl<'c> Conversation<'c> {
             verifier: Verifier::new(alloc, circuit, layout)?,
             frame: vec![in alloc; 0; room]?,
             polys: vec![in alloc; none; most]?,
-            hex: vec![in alloc; 0; 2 * room]?,
             talk,
         })
     }
@@ -114,6 +115,7 @@ impl<'c> Conversation<'c> {
         requires answers { A.circuit answers.old ≡ self.old.circuit.now }
         requires draws { draws.old.place ≡ 0 }
         requires silent { IsAt self.old draws.old [] (AskHello self.old.hello) Silent }
+        requires goes_on { GoesOn (A.goes_on answers.old) self.old.prover }
         ensures alters { W.alters watch.new ≡ W.alters watch.old }
         ensures talk { (frames : List (List ℕ)) × Shows (W.frames watch.old) (W.frames watch.new) frames
             × IsTalk self.old (draw_from draws.old.source) (W.alters watch.old) frames (O.held out.old) (O.held out.new) result }
@@ -121,7 +123,8 @@ impl<'c> Conversation<'c> {
     {
         match self.talk(answers, draws, watch, out, steps) {
             Talked::Certified(answer) => self.part(answer, watch, out),
-            talked => talked,
+            Talked::Failed(failure) => Talked::Failed(failure),
+            Talked::Unprinted => Talked::Unprinted,
         }
     }
 
@@ -138,6 +141,7 @@ impl<'c> Conversation<'c> {
         requires answers { A.circuit answers.old ≡ self.old.circuit.now }
         requires draws { draws.old.place ≡ 0 }
         requires silent { IsAt self.old draws.old [] (AskHello self.old.hello) Silent }
+        requires goes_on { GoesOn (A.goes_on answers.old) self.old.prover }
         ensures fitted { IsFitted self.new }
         ensures same { IsSame self.old self.new }
         ensures alters { W.alters watch.new ≡ W.alters watch.old }
@@ -169,15 +173,18 @@ impl<'c> Conversation<'c> {
         requires fitted { IsFitted self.old }
         requires answers { A.circuit answers.old ≡ self.old.circuit.now }
         requires at { (asks : List AskOf) × (t : Talk) × IsAt self.old draws.old asks ask.now t }
+        requires goes_on { GoesOn (A.goes_on answers.old) self.old.prover }
         ensures fitted { IsFitted self.new }
         ensures same { IsSame self.old self.new }
         ensures answers { A.circuit answers.new ≡ A.circuit answers.old }
+        ensures goes_on { GoesOn (A.goes_on answers.new) self.new.prover }
         ensures source { draws.new.source ≡ draws.old.source }
         ensures alters { W.alters watch.new ≡ W.alters watch.old }
         ensures exchanged { (asks : List AskOf) (t : Talk) → IsAt self.old draws.old asks ask.now t
-            → (came : List ℕ) × Shows (W.frames watch.old) (W.frames watch.new) (ask_spelling ask.now ∷ came ∷ [])
-            × HasCome self.old self.new draws.old draws.new (W.alters watch.old) asks ask.now t came result
-            × ArePrinted (O.held out.old) (O.held out.new) (lines_of self.old (ask_spelling ask.now ∷ came ∷ [])) result }
+            → (came : List ℕ) × (says : Option Said) × Shows (W.frames watch.old) (W.frames watch.new) (ask_spelling ask.now ∷ came ∷ [])
+            × HasCome self.old self.new draws.old draws.new (W.alters watch.old) asks ask.now t came says result
+            × ArePrinted (O.held out.old) (O.held out.new) self.old.talk
+            (talk_text (spoken_at (position_of self.old draws.old ask.now t says) (ask_spelling ask.now ∷ came ∷ []))) result }
         ensures cause { ExchangeCounts (O.faults out.old) (O.faults out.new) result }
     {
         self.circuit.is_within_limits();
@@ -186,7 +193,7 @@ impl<'c> Conversation<'c> {
         let asked_len = show_ask(ask, &mut asked, watch);
         let came_len = self.show_reply(ask, answers, watch, steps);
         let exchanged = self.judge(came_len, draws, steps);
-        match self.print(&asked[..asked_len], came_len, out) {
+        match self.print(&asked[..asked_len], came_len, &exchanged, out) {
             Ok(()) => exchanged,
             Err(WriteFault) => Exchanged::Ends(Talked::Unprinted),
         }
@@ -203,16 +210,18 @@ impl<'c> Conversation<'c> {
         requires fitted { IsFitted self.old }
         requires answers { A.circuit answers.old ≡ self.old.circuit.now }
         requires asked { (asks : List AskOf) × (t : Talk) × (n : ℕ) × IsAsked self.old.prover asks ask.now t n }
+        requires goes_on { GoesOn (A.goes_on answers.old) self.old.prover }
         ensures fitted { IsFitted self.new }
         ensures same { IsSame self.old self.new }
         ensures verifier { self.new.verifier ≡ self.old.verifier }
         ensures answers { A.circuit answers.new ≡ A.circuit answers.old }
+        ensures goes_on { GoesOn (A.goes_on answers.new) self.new.prover }
         ensures length { (5 ≤ result) × (result + 15 ≤ length self.new.frame.items) }
         ensures stands { (asks : List AskOf) → ProverStandsFor self.old.prover asks → ProverStandsFor self.new.prover (asks ++ ask.now ∷ []) }
         ensures alters { W.alters watch.new ≡ W.alters watch.old }
         ensures list { Adds (W.frames watch.old) (W.frames watch.new) (take result self.new.frame.items) }
         ensures carried { (asks : List AskOf) (t : Talk) (n : ℕ) → IsAsked self.old.prover asks ask.now t n
-            → IsCarried (W.alters watch.old) (reply_spelling (honest_reply self.old.circuit.now t)) (take result self.new.frame.items) }
+            → IsCarried (W.alters watch.old) (reply_spelling (honest_reply (instance_by self.old) t)) (take result self.new.frame.items) }
     {
         let len = reply(
             &mut self.prover,
@@ -245,8 +254,7 @@ impl<'c> Conversation<'c> {
         ensures frame { self.new.frame ≡ self.old.frame }
         ensures source { draws.new.source ≡ draws.old.source }
         ensures judged { (says : Option Said) × Reads (take len self.old.frame.items) says × ((ask : AskOf) (t : Talk) → VerifierStandsFor self.old.verifier t
-            → IsFollowed self.new.verifier draws.new (read_on self.old.circuit.now (draw_from draws.old.source) (Awaits ask t draws.old.place) says) result
-            × IsWorthIf self.old.circuit.now t result says) }
+            → IsFollowed self.new.verifier draws.new (position_of self.old draws.old ask t says) result) }
     {
         match take_frame(
             &mut self.verifier,
@@ -259,34 +267,30 @@ impl<'c> Conversation<'c> {
         }
     }
 
-    // Prints the lines of an ask's frame and of the reply's, which is at the front of the buffer.
+    // Prints the line of an ask's frame, and that of the reply at the front of the buffer if it is a frame.
     fn print<O: Sink>(
-        &mut self,
+        &self,
         asked: &[u8],
         came_len: usize,
+        exchanged: &Exchanged,
         out: &mut O,
     ) -> Result<(), WriteFault>
-        requires fitted { IsFitted self.old }
-        requires asked { (5 ≤ length asked.now) × (length asked.now ≤ 43) }
-        requires came { (5 ≤ came_len) × (came_len ≤ length self.old.frame.items) }
-        ensures fitted { IsFitted self.new }
-        ensures same { IsSame self.old self.new }
-        ensures machines { (self.new.prover ≡ self.old.prover) × (self.new.verifier ≡ self.old.verifier) }
-        ensures bytes { Prints (O.held out.old) (O.held out.new) result (lines_of self.old (asked.now ∷ take came_len self.old.frame.items ∷ [])) }
+        requires { came_len ≤ length self.now.frame.items }
+        ensures bytes { Prints (O.held out.old) (O.held out.new) result (cond self.now.talk (exchange_text exchanged.now asked.now (take came_len self.now.frame.items)) []) }
+        ensures talking { IfErr result (λ e. self.now.talk ≡ true) }
         ensures cause { PrintCounts (O.faults out.old) (O.faults out.new) result }
     {
         if !self.talk {
             return Ok(());
         }
-        print_frames(out, asked, &self.frame[..came_len], &mut self.hex)
+        print_exchange(out, asked, &self.frame[..came_len], exchanged)
     }
 
     // The verifier ends the conversation, whose answer it accepted.
-    fn part<W: Watch, O: Sink>(&mut self, answer: bool, watch: &mut W, out: &mut O) -> Talked
-        requires fitted { IsFitted self.old }
+    fn part<W: Watch, O: Sink>(&self, answer: bool, watch: &mut W, out: &mut O) -> Talked
         ensures alters { W.alters watch.new ≡ W.alters watch.old }
         ensures list { Adds (W.frames watch.old) (W.frames watch.new) (ask_spelling AskBye) }
-        ensures told { IsParted (O.held out.old) (O.held out.new) (lines_of self.old (ask_spelling AskBye ∷ [])) answer result }
+        ensures told { IsParted (O.held out.old) (O.held out.new) self.now.talk (talk_text (ask_spelling AskBye ∷ [])) answer result }
         ensures cause { TalkCounts (O.faults out.old) (O.faults out.new) result }
     {
         let mut asked = [0; LONGEST_ASK];
@@ -294,28 +298,36 @@ impl<'c> Conversation<'c> {
         if !self.talk {
             return Talked::Certified(answer);
         }
-        match print_frame(out, &asked[..len], &mut self.hex) {
+        match print_frame(out, &asked[..len]) {
             Ok(()) => Talked::Certified(answer),
             Err(WriteFault) => Talked::Unprinted,
         }
     }
 }
 
-// Prints the lines of two frames.
-fn print_frames<O: Sink>(
+// Prints the lines of an exchange: a reply that is no frame has none.
+fn print_exchange<O: Sink>(
     out: &mut O,
     asked: &[u8],
     came: &[u8],
-    hex: &mut [u8],
+    exchanged: &Exchanged,
 ) -> Result<(), WriteFault>
-    requires asked { (5 ≤ length asked.now) × (2 * length asked.now ≤ length hex.old) }
-    requires came { (5 ≤ length came.now) × (2 * length came.now ≤ length hex.old) }
+    ensures bytes { Prints (O.held out.old) (O.held out.new) result (exchange_text exchanged.now asked.now came.now) }
+    ensures cause { PrintCounts (O.faults out.old) (O.faults out.new) result }
+{
+    match exchanged {
+        Exchanged::Ends(Talked::Failed(Failure::NotFrame)) => print_frame(out, asked),
+        _ => print_frames(out, asked, came),
+    }
+}
+
+// Prints the lines of two frames.
+fn print_frames<O: Sink>(out: &mut O, asked: &[u8], came: &[u8]) -> Result<(), WriteFault>
     ensures bytes { Prints (O.held out.old) (O.held out.new) result (talk_text (asked.now ∷ came.now ∷ [])) }
     ensures cause { PrintCounts (O.faults out.old) (O.faults out.new) result }
-    ensures room { length hex.new ≡ length hex.old }
 {
-    match print_frame(out, asked, hex) {
-        Ok(()) => print_frame(out, came, hex),
+    match print_frame(out, asked) {
+        Ok(()) => print_frame(out, came),
         Err(fault) => Err(fault),
     }
 }
@@ -376,13 +388,16 @@ fn reply<A: Answers, L: Ledger>(
     requires answers { A.circuit answers.old ≡ circuit.now }
     requires room { (polys : ℕ) × HasRoom circuit.now (length frame.old) polys }
     requires asked { (asks : List AskOf) × (t : Talk) × (n : ℕ) × IsAsked prover.old asks ask.now t n }
+    requires goes_on { GoesOn (A.goes_on answers.old) prover.old }
     ensures circuit { prover.new.circuit ≡ prover.old.circuit }
     ensures served { prover.new.served ≡ prover.old.served }
     ensures answers { A.circuit answers.new ≡ A.circuit answers.old }
+    ensures goes_on { GoesOn (A.goes_on answers.new) prover.new }
     ensures stands { (asks : List AskOf) → ProverStandsFor prover.old asks → ProverStandsFor prover.new (asks ++ ask.now ∷ []) }
     ensures room { length frame.new ≡ length frame.old }
     ensures length { (5 ≤ result) × (result + 15 ≤ length frame.new) }
-    ensures written { (asks : List AskOf) (t : Talk) (n : ℕ) → IsAsked prover.old asks ask.now t n → take result frame.new ≡ reply_spelling (honest_reply circuit.now t) }
+    ensures written { (asks : List AskOf) (t : Talk) (n : ℕ) → IsAsked prover.old asks ask.now t n
+        → (hello : HelloOf) → take result frame.new ≡ reply_spelling (honest_reply (record { circuit = circuit.now; hello = hello }) t) }
 {
     circuit.is_within_limits();
     claims_law();
@@ -425,7 +440,6 @@ fn go_on<L: Ledger>(
     requires going { next ≢ Next.Over }
     ensures circuit { verifier.new.circuit ≡ verifier.old.circuit }
     ensures source { draws.new.source ≡ draws.old.source }
-    ensures certified { (b : Bool) → result ≡ Exchanged.Ends (Talked.Certified b) → next ≡ Next.Done b }
     ensures follows { (t : Talk) → (is_in_turn next ≡ true → VerifierStandsFor verifier.old t) → IsFollowed verifier.new draws.new (goes_on (draw_from draws.old.source) t draws.old.place next) result }
 {
     match next {

@@ -1,51 +1,50 @@
 // Certifying two large formulas that are made from a number, one after the other.
 ghost use Rattle.std.specs.Prelude.{◌≡◌, ◌≤◌, ◌^◌, ℕ, List, Option, None, Some};
-ghost use Rattle.blic_top.specs.Asked.{exercise_asked_by};
-ghost use Rattle.blic_top.specs.Deciding.{DecideCounts, Decides, DecidesOfOne, exercised_draws, of_one};
-ghost use Rattle.blic_top.specs.Exercising.{exercise_formula, exercise_manner};
-ghost use Rattle.blic_top.specs.Words.{Exercise};
+ghost use Rattle.blic_top.specs.Deciding.{Decides, DecidesAll, exercised_draws, of_one};
+ghost use Rattle.blic_top.specs.Deed.{Deed, IsDeed};
+ghost use Rattle.blic_top.specs.Faults.{Counts, Entropy as TheEntropy, Files as TheFiles, WriteCounts, fault_in};
+ghost use Rattle.blic_top.specs.Jobs.{exercise_job};
+ghost use Rattle.blic_words.specs.Requests.{Exercise};
 
-use crate::certify::{Manner, certify_formula};
-use crate::outcome::Outcome;
-use crate::printing::WriteFault;
-use crate::words::{ExerciseArguments, USUAL_NODES, USUAL_PAIRS};
+use crate::certify::{CertifyOptions, certify_formula};
+use crate::outcome::{End, Outcome};
 use blic_basic::{Entropy, Sink, Watch};
 use blic_claims::claims_law;
 use blic_gen::{chain_law, xor_chain};
 use blic_model::circuit_law;
+use blic_print::WriteFault;
+use blic_words::Options;
 use std::alloc::Global;
 
 /// Certifies a true formula and then a false one. The line of the first is printed before the second is made. `None`
 /// where it could not be printed.
 pub(crate) fn exercise<E: Entropy, W: Watch, O: Sink>(
     alloc: Global,
-    asked: &ExerciseArguments,
+    pairs: u32,
+    options: &Options,
     entropy: &mut E,
     watch: &mut W,
     out: &mut O,
 ) -> Option<Outcome>
-    requires pairs { (1 ≤ asked.now.pairs) × (asked.now.pairs ≤ 500) }
-    ensures decides { (files : Option (List ℕ → Option (List ℕ))) → Decides (Some (Exercise (exercise_asked_by asked.now))) (record {
-      files = files;
-      seeds = E.seeds entropy.old;
-      seeds_after = E.seeds entropy.new;
-      alters = W.alters watch.old;
-      seen = W.frames watch.old;
-      seen_after = W.frames watch.new;
-    }) (O.held out.old) (O.held out.new) result }
-    ensures cause { DecideCounts 0 0 (E.faults entropy.old) (E.faults entropy.new) (O.faults out.old) (O.faults out.new) result }
+    requires pairs { (1 ≤ pairs) × (pairs ≤ 500) }
+    ensures decides { (deed : Deed) × IsDeed (E.seeds entropy.old) (E.seeds entropy.new) (W.frames watch.old) (W.frames watch.new) deed
+        × ((files : Option (List ℕ → Option (List ℕ))) → DecidesAll (Some (Exercise pairs options.now))
+        (record { files = files; alters = W.alters watch.old }) deed (O.held out.old) (O.held out.new) result) }
+    ensures entropy_cause { Counts TheEntropy (fault_in result) (E.faults entropy.old) (E.faults entropy.new) }
+    ensures write_cause { WriteCounts result (O.faults out.old) (O.faults out.new) }
+    ensures no_read_fault { (n : ℕ) → Counts TheFiles (fault_in result) n n }
 {
     chain_law();
     circuit_law();
     claims_law();
-    let Some(first) = exercise_one(alloc, asked, true, 0, entropy, watch, out) else {
+    let Some(first) = exercise_one(alloc, pairs, options, true, 0, entropy, watch, out) else {
         return None;
     };
     let Some(draws) = draws_of(first) else {
         return Some(first);
     };
     match first.print(out) {
-        Ok(()) => exercise_one(alloc, asked, false, draws, entropy, watch, out),
+        Ok(()) => exercise_one(alloc, pairs, options, false, draws, entropy, watch, out),
         Err(WriteFault) => None,
     }
 }
@@ -55,7 +54,7 @@ fn draws_of(outcome: Outcome) -> Option<u64>
     ensures { result ≡ exercised_draws outcome }
 {
     match outcome {
-        Outcome::Exercised(_, _, _, draws, _) => Some(draws),
+        Outcome::Done(End::Exercised(_, tally)) => Some(tally.draws),
         _ => None,
     }
 }
@@ -63,37 +62,36 @@ fn draws_of(outcome: Outcome) -> Option<u64>
 // Certifies one of the formulas, with the draws of the seed from the first on. Nothing is printed.
 fn exercise_one<E: Entropy, W: Watch, O: Sink>(
     alloc: Global,
-    asked: &ExerciseArguments,
+    pairs: u32,
+    options: &Options,
     truth: bool,
     first: u64,
     entropy: &mut E,
     watch: &mut W,
     out: &mut O,
 ) -> Option<Outcome>
-    requires pairs { (1 ≤ asked.now.pairs) × (asked.now.pairs ≤ 500) }
+    requires pairs { (1 ≤ pairs) × (pairs ≤ 500) }
     requires first { first ≤ 2 ^ 61 }
     ensures alters { W.alters watch.new ≡ W.alters watch.old }
-    ensures decides { DecidesOfOne (exercise_formula (exercise_asked_by asked.now) truth) (exercise_manner (exercise_asked_by asked.now) first) (record {
-      files = None;
-      seeds = E.seeds entropy.old;
-      seeds_after = E.seeds entropy.new;
-      alters = W.alters watch.old;
-      seen = W.frames watch.old;
-      seen_after = W.frames watch.new;
-    }) (O.held out.old) (O.held out.new) result }
-    ensures cause { DecideCounts 0 0 (E.faults entropy.old) (E.faults entropy.new) (O.faults out.old) (O.faults out.new) result }
+    ensures decides { (deed : Deed) × IsDeed (E.seeds entropy.old) (E.seeds entropy.new) (W.frames watch.old) (W.frames watch.new) deed
+        × Decides (exercise_job pairs options.now truth first) (record { files = None; alters = W.alters watch.old }) deed (O.held out.old) (O.held out.new) result }
+    ensures entropy_cause { Counts TheEntropy (fault_in result) (E.faults entropy.old) (E.faults entropy.new) }
+    ensures write_cause { WriteCounts result (O.faults out.old) (O.faults out.new) }
+    ensures no_read_fault { (n : ℕ) → Counts TheFiles (fault_in result) n n }
 {
-    let Ok(formula) = xor_chain(alloc, asked.pairs, truth) else {
+    let Ok(formula) = xor_chain(alloc, pairs, truth) else {
         return Some(Outcome::NoMemory);
     };
-    let manner = Manner {
-        nodes: USUAL_NODES,
-        pairs: USUAL_PAIRS,
-        seed: Some(asked.seed),
+    let seed = options.seed.unwrap_or([0; 32]);
+    let options = CertifyOptions {
+        options: Options {
+            seed: Some(seed),
+            talk: false,
+            ..*options
+        },
         first,
-        talk: false,
     };
-    match certify_formula(alloc, &formula, &manner, entropy, watch, out) {
+    match certify_formula(alloc, &formula, &options, entropy, watch, out) {
         Some(outcome) => Some(said_of_one(outcome)),
         None => None,
     }
@@ -104,8 +102,8 @@ fn said_of_one(outcome: Outcome) -> Outcome
     ensures { result ≡ of_one outcome }
 {
     match outcome {
-        Outcome::Certified(answer, vars, clauses, draws, bad) => {
-            Outcome::Exercised(answer, vars, clauses, draws, bad)
+        Outcome::Done(End::Certified(answer, tally)) => {
+            Outcome::Done(End::Exercised(answer, tally))
         }
         other => other,
     }

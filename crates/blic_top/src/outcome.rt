@@ -1,11 +1,13 @@
 // What the program has to say, with its status and its text.
 ghost use Rattle.std.specs.Prelude.{◌≡◌, ◌++◌, cond, codes, decimal};
-ghost use Rattle.blic_top.specs.Outcome.{check_text, failure_status as status_of_failure, failure_text, line_end, refusal_text, refused_at, status_of, text_of};
-ghost use Rattle.blic_top.specs.Printing.{Prints, PrintCounts};
+ghost use Rattle.blic_top.specs.Outcome.{check_text, circuit_status as status_of_circuit, circuit_text, end_status, end_text, failure_status as status_of_failure, failure_text, line_end, read_status as status_of_reading, refusal_text, refused_at, solving_status as status_of_solving, solving_text, status_of, stop_status, stop_text, text_of, truth_status as status_of_truth};
+ghost use Rattle.blic_print.specs.Printing.{Prints, PrintCounts};
 
-use crate::printing::{Piece, WriteFault, print_pieces};
 use blic_basic::Sink;
+use blic_model::CircuitError;
+use blic_print::{Piece, WriteFault, print_pieces};
 use blic_qdimacs::ReadError;
+use blic_solve::SolveError;
 use blic_verifier::{Part, Place};
 
 /// How a conversation failed.
@@ -21,34 +23,58 @@ pub enum Failure {
     NotFrame,
 }
 
+/// Why nothing is answered: the first thing that could not be had.
+#[derive(Clone, Copy, Debug, PartialEq, Eq)]
+pub enum Stop {
+    /// The file holds no formula, or could not be read.
+    NotRead(ReadError),
+    /// The formula's circuit passes a limit.
+    NotBuilt(CircuitError),
+    /// The circuit passes a limit of solving.
+    NotSolved(SolveError),
+    /// No seed could be had.
+    NoSeed,
+}
+
+/// What the answer line of QDIMACS says: the truth, and the numbers of variables and of clauses.
+#[derive(Clone, Copy, Debug, PartialEq, Eq)]
+pub struct Answer {
+    pub truth: bool,
+    pub vars: u32,
+    pub clauses: u32,
+}
+
+/// How many draws a conversation has, and at most how many bad elements they have in all.
+#[derive(Clone, Copy, Debug, PartialEq, Eq)]
+pub struct Tally {
+    pub draws: u64,
+    pub bad: u64,
+}
+
+/// How the work on a formula ended.
+#[derive(Clone, Copy, Debug, PartialEq, Eq)]
+pub enum End {
+    /// It was solved.
+    Solved(Answer),
+    /// This answer was certified.
+    Certified(Answer, Tally),
+    /// The same, of a formula of an exercise.
+    Exercised(Answer, Tally),
+    /// The conversation was not accepted.
+    Failed(Failure),
+}
+
 /// How a command ended.
 #[derive(Clone, Copy, Debug, PartialEq, Eq)]
 pub enum Outcome {
     /// The words don't fit.
     Usage,
-    /// No formula was read: the file's first refusal, a fault of the files, or want of memory.
-    NotRead(ReadError),
-    /// The circuit's greatest node with too many claims, and how many it has.
-    TooManyClaims(u32, u64),
-    /// The circuit has that many points, which are too many.
-    TooManyPoints(u64),
-    /// The first node at which a limit of solving is passed passes that of pairs.
-    TooManyPairs(u32),
-    /// The first node at which a limit of solving is passed passes that of decisions alone.
-    TooManyNodes(u32),
-    /// No seed could be had.
-    EntropyFault,
     /// Memory ran out.
     NoMemory,
-    /// The formula's truth, its number of variables and its number of clauses.
-    Solved(bool, u32, u32),
-    /// The certified answer, the numbers of variables and of clauses, and the conversation's numbers of
-    /// draws and of bad elements at most.
-    Certified(bool, u32, u32, u64, u64),
-    /// The conversation was not accepted.
-    NotCertified(Failure),
-    /// What `Certified` has, of a formula of an exercise.
-    Exercised(bool, u32, u32, u64, u64),
+    /// Something could not be had.
+    Stopped(Stop),
+    /// The work ended.
+    Done(End),
 }
 
 impl Outcome {
@@ -58,21 +84,9 @@ impl Outcome {
     {
         match self {
             Outcome::Usage => 1,
-            Outcome::NotRead(ReadError::Fault) => 3,
-            Outcome::NotRead(ReadError::NoMem) => 9,
-            Outcome::NotRead(_) => 2,
-            Outcome::TooManyClaims(_, _) => 8,
-            Outcome::TooManyPoints(_) => 8,
-            Outcome::TooManyPairs(_) => 8,
-            Outcome::TooManyNodes(_) => 8,
-            Outcome::EntropyFault => 11,
             Outcome::NoMemory => 9,
-            Outcome::Solved(true, _, _) => 10,
-            Outcome::Solved(false, _, _) => 20,
-            Outcome::Certified(true, _, _, _, _) => 10,
-            Outcome::Certified(false, _, _, _, _) => 20,
-            Outcome::NotCertified(failure) => failure_status(failure),
-            Outcome::Exercised(_, _, _, _, _) => 0,
+            Outcome::Stopped(stop) => stop.status(),
+            Outcome::Done(end) => end.status(),
         }
     }
 
@@ -88,84 +102,187 @@ impl Outcome {
                     b"usage: blic solve FILE, certify FILE, verify FILE ADDR or exercise N\n",
                 )],
             ),
-            Outcome::NotRead(error) => print_refusal(out, error),
-            Outcome::TooManyClaims(node, count) => print_pieces(
-                out,
-                &[
-                    Piece::Bytes(b"c limit claims at "),
-                    Piece::Number(node as u64),
-                    Piece::Bytes(b" count "),
-                    Piece::Number(count),
-                    Piece::Bytes(b"\n"),
-                ],
-            ),
-            Outcome::TooManyPoints(count) => print_pieces(
-                out,
-                &[
-                    Piece::Bytes(b"c limit points count "),
-                    Piece::Number(count),
-                    Piece::Bytes(b"\n"),
-                ],
-            ),
-            Outcome::TooManyPairs(node) => print_pieces(
-                out,
-                &[
-                    Piece::Bytes(b"c limit pairs at "),
-                    Piece::Number(node as u64),
-                    Piece::Bytes(b"\n"),
-                ],
-            ),
-            Outcome::TooManyNodes(node) => print_pieces(
-                out,
-                &[
-                    Piece::Bytes(b"c limit nodes at "),
-                    Piece::Number(node as u64),
-                    Piece::Bytes(b"\n"),
-                ],
-            ),
-            Outcome::EntropyFault => print_pieces(out, &[Piece::Bytes(b"c entropy fault\n")]),
             Outcome::NoMemory => print_pieces(out, &[Piece::Bytes(b"c want of memory\n")]),
-            Outcome::Solved(truth, vars, clauses) => print_pieces(
-                out,
-                &[
-                    Piece::Bytes(answer(truth)),
-                    Piece::Number(vars as u64),
-                    Piece::Bytes(b" "),
-                    Piece::Number(clauses as u64),
-                    Piece::Bytes(b"\n"),
-                ],
-            ),
-            Outcome::Certified(truth, vars, clauses, draws, bad) => print_pieces(
-                out,
-                &[
-                    Piece::Bytes(answer(truth)),
-                    Piece::Number(vars as u64),
-                    Piece::Bytes(b" "),
-                    Piece::Number(clauses as u64),
-                    Piece::Bytes(b"\nruns 1\ndraws "),
-                    Piece::Number(draws),
-                    Piece::Bytes(b"\nbad "),
-                    Piece::Number(bad),
-                    Piece::Bytes(b"\n"),
-                ],
-            ),
-            Outcome::NotCertified(failure) => print_failure(out, failure),
-            Outcome::Exercised(truth, vars, clauses, draws, bad) => print_pieces(
-                out,
-                &[
-                    Piece::Bytes(word(truth)),
-                    Piece::Bytes(b" vars "),
-                    Piece::Number(vars as u64),
-                    Piece::Bytes(b" clauses "),
-                    Piece::Number(clauses as u64),
-                    Piece::Bytes(b" draws "),
-                    Piece::Number(draws),
-                    Piece::Bytes(b" bad "),
-                    Piece::Number(bad),
-                    Piece::Bytes(b"\n"),
-                ],
-            ),
+            Outcome::Stopped(stop) => stop.print(out),
+            Outcome::Done(end) => end.print(out),
         }
+    }
+}
+
+impl Stop {
+    fn status(self) -> u8
+        ensures { result ≡ stop_status self }
+    {
+        match self {
+            Stop::NotRead(error) => read_status(error),
+            Stop::NotBuilt(error) => circuit_status(error),
+            Stop::NotSolved(error) => solving_status(error),
+            Stop::NoSeed => 11,
+        }
+    }
+
+    fn print<O: Sink>(self, out: &mut O) -> Result<(), WriteFault>
+        ensures bytes { Prints (O.held out.old) (O.held out.new) result (stop_text self) }
+        ensures cause { PrintCounts (O.faults out.old) (O.faults out.new) result }
+    {
+        match self {
+            Stop::NotRead(error) => print_refusal(out, error),
+            Stop::NotBuilt(error) => print_circuit(out, error),
+            Stop::NotSolved(error) => print_solving(out, error),
+            Stop::NoSeed => print_pieces(out, &[Piece::Bytes(b"c entropy fault\n")]),
+        }
+    }
+}
+
+impl End {
+    fn status(self) -> u8
+        ensures { result ≡ end_status self }
+    {
+        match self {
+            End::Solved(answer) => truth_status(answer.truth),
+            End::Certified(answer, _) => truth_status(answer.truth),
+            End::Exercised(_, _) => 0,
+            End::Failed(failure) => failure_status(failure),
+        }
+    }
+
+    fn print<O: Sink>(self, out: &mut O) -> Result<(), WriteFault>
+        ensures bytes { Prints (O.held out.old) (O.held out.new) result (end_text self) }
+        ensures cause { PrintCounts (O.faults out.old) (O.faults out.new) result }
+    {
+        match self {
+            End::Solved(answer) => print_pieces(
+                out,
+                &[
+                    Piece::Bytes(answer_head(answer.truth)),
+                    Piece::Number(answer.vars as u64),
+                    Piece::Bytes(b" "),
+                    Piece::Number(answer.clauses as u64),
+                    Piece::Bytes(b"\n"),
+                ],
+            ),
+            End::Certified(answer, tally) => print_pieces(
+                out,
+                &[
+                    Piece::Bytes(answer_head(answer.truth)),
+                    Piece::Number(answer.vars as u64),
+                    Piece::Bytes(b" "),
+                    Piece::Number(answer.clauses as u64),
+                    Piece::Bytes(b"\nruns 1\ndraws "),
+                    Piece::Number(tally.draws),
+                    Piece::Bytes(b"\nbad "),
+                    Piece::Number(tally.bad),
+                    Piece::Bytes(b"\n"),
+                ],
+            ),
+            End::Exercised(answer, tally) => print_pieces(
+                out,
+                &[
+                    Piece::Bytes(word(answer.truth)),
+                    Piece::Bytes(b" vars "),
+                    Piece::Number(answer.vars as u64),
+                    Piece::Bytes(b" clauses "),
+                    Piece::Number(answer.clauses as u64),
+                    Piece::Bytes(b" draws "),
+                    Piece::Number(tally.draws),
+                    Piece::Bytes(b" bad "),
+                    Piece::Number(tally.bad),
+                    Piece::Bytes(b"\n"),
+                ],
+            ),
+            End::Failed(failure) => print_failure(out, failure),
+        }
+    }
+}
+
+// 3 for a fault, 9 for want of memory, 2 for a refused file.
+fn read_status(error: ReadError) -> u8
+    ensures { result ≡ status_of_reading error }
+{
+    match error {
+        ReadError::Fault => 3,
+        ReadError::NoMem => 9,
+        _ => 2,
+    }
+}
+
+// 9 for want of memory, 8 for a limit.
+fn circuit_status(error: CircuitError) -> u8
+    ensures { result ≡ status_of_circuit error }
+{
+    match error {
+        CircuitError::NoMem => 9,
+        _ => 8,
+    }
+}
+
+fn solving_status(error: SolveError) -> u8
+    ensures { result ≡ status_of_solving error }
+{
+    match error {
+        SolveError::NoMem => 9,
+        _ => 8,
+    }
+}
+
+// 10 for true and 20 for false.
+fn truth_status(truth: bool) -> u8
+    ensures { result ≡ status_of_truth truth }
+{
+    if truth { 10 } else { 20 }
+}
+
+// The limit of circuits that is passed.
+fn print_circuit<O: Sink>(out: &mut O, error: CircuitError) -> Result<(), WriteFault>
+    ensures bytes { Prints (O.held out.old) (O.held out.new) result (circuit_text error) }
+    ensures cause { PrintCounts (O.faults out.old) (O.faults out.new) result }
+{
+    match error {
+        CircuitError::TooManyClaims { node, claims } => print_pieces(
+            out,
+            &[
+                Piece::Bytes(b"c limit claims at "),
+                Piece::Number(node as u64),
+                Piece::Bytes(b" count "),
+                Piece::Number(claims),
+                Piece::Bytes(b"\n"),
+            ],
+        ),
+        CircuitError::TooManyPoints { points } => print_pieces(
+            out,
+            &[
+                Piece::Bytes(b"c limit points count "),
+                Piece::Number(points),
+                Piece::Bytes(b"\n"),
+            ],
+        ),
+        CircuitError::NoMem => print_pieces(out, &[Piece::Bytes(b"c want of memory\n")]),
+    }
+}
+
+// The limit of solving that is passed.
+fn print_solving<O: Sink>(out: &mut O, error: SolveError) -> Result<(), WriteFault>
+    ensures bytes { Prints (O.held out.old) (O.held out.new) result (solving_text error) }
+    ensures cause { PrintCounts (O.faults out.old) (O.faults out.new) result }
+{
+    match error {
+        SolveError::PairLimit { node } => print_pieces(
+            out,
+            &[
+                Piece::Bytes(b"c limit pairs at "),
+                Piece::Number(node as u64),
+                Piece::Bytes(b"\n"),
+            ],
+        ),
+        SolveError::NodeLimit { node } => print_pieces(
+            out,
+            &[
+                Piece::Bytes(b"c limit nodes at "),
+                Piece::Number(node as u64),
+                Piece::Bytes(b"\n"),
+            ],
+        ),
+        SolveError::NoMem => print_pieces(out, &[Piece::Bytes(b"c want of memory\n")]),
     }
 }
 
@@ -181,8 +298,8 @@ fn failure_status(failure: Failure) -> u8
     }
 }
 
-// The front of the answer line of QDIMACS.
-fn answer(truth: bool) -> &'static [u8]
+// How the answer line of QDIMACS begins.
+fn answer_head(truth: bool) -> &'static [u8]
     ensures { result.now ≡ cond truth (codes "s cnf 1 ") (codes "s cnf 0 ") }
 {
     if truth { b"s cnf 1 " } else { b"s cnf 0 " }

@@ -1,24 +1,27 @@
 // The program's work.
-ghost use Rattle.std.specs.Prelude.{◌≡◌, ◌≢◌, Some, None, Option, false};
+ghost use Rattle.std.specs.Prelude.{◌≡◌, ◌≢◌, ℕ, Bool, Some, None, Option, false, map, string_bytes};
 ghost use Rattle.blic_basic.specs.Outside.{Rose};
-ghost use Rattle.blic_model.specs.Building.{circuit_of};
-ghost use Rattle.blic_top.specs.Asked.{asked_by, certify_asked_by};
-ghost use Rattle.blic_top.specs.Words.{request_of, Certify};
-ghost use Rattle.blic_top.specs.OfFile.{HasSmallCircuit};
-ghost use Rattle.blic_top.specs.Means.{SaysOfFormula};
-ghost use Rattle.blic_top.specs.Deciding.{DecideCounts, Decides, SolvesFile};
-ghost use Rattle.blic_top.specs.Ends.{OutcomeCounts, Certifies, Exercises, IsOrNoMemory, LimitsCircuit, LimitsSecond, LimitsSolving, Refuses, Says, Solves};
+ghost use Rattle.blic_words.specs.Requests.{Certify, Solve, request_of};
+ghost use Rattle.blic_top.specs.Deciding.{DecidesAll};
+ghost use Rattle.blic_top.specs.Deed.{Deed, nothing, IsDeed};
+ghost use Rattle.blic_top.specs.Ends.{Says};
+ghost use Rattle.blic_top.specs.Faults.{Counts, Entropy as TheEntropy, Files as TheFiles, WriteCounts, fault_in, fault_of};
+ghost use Rattle.blic_top.specs.Jobs.{Made, first_job, limits_of, solve_job};
+ghost use Rattle.blic_top.specs.Means.{Runs};
+ghost use Rattle.blic_top.specs.Problem.{problem_of};
+ghost use Rattle.blic_top.specs.Promises.{Certifies, Exercises, IsOrNoMemory, Limits, LimitsSecond, Refuses, Solves, Tells, TellsCertified};
+ghost use Rattle.blic_top.specs.Stops.{HasSmallCircuit};
 
-use crate::certify::{Manner, certify_formula};
+use crate::certify::{CertifyOptions, certify_formula};
 use crate::exercise::exercise;
 use crate::file::read_file;
-use crate::outcome::Outcome;
-use crate::printing::WriteFault;
-use crate::words::{Arguments, CertifyArguments, SolveArguments, parse_arguments};
-use blic_basic::{Entropy, Files, Sink, Watch};
+use crate::outcome::{Answer, End, Outcome, Stop};
+use blic_basic::{Entropy, Files, NoMem, Sink, Watch};
 use blic_circuit::build;
-use blic_model::{Circuit, CircuitError, Formula, boolean_value_law, circuit_law, shape_law};
-use blic_solve::{Plan, SolveError};
+use blic_model::{Circuit, Formula, boolean_value_law, circuit_law, shape_law};
+use blic_print::WriteFault;
+use blic_solve::answer;
+use blic_words::{Options, Request, parse};
 use std::alloc::Global;
 
 /// Does all that the program does with its words, which are without its name. Answers the exit
@@ -40,13 +43,13 @@ use std::alloc::Global;
 /// certified, `true vars V clauses C draws D bad B` or the same with `false`, by the certified answer. The seed is one of 32 zeros where
 /// `--seed` gives none, and the draws go on from the first conversation to the second.
 ///
-/// | status | where |
+/// | status | if |
 /// |---|---|
 /// | 0 | `exercise` printed both lines |
 /// | 1 | the words don't fit |
 /// | 2 | the file spells no formula within the limits |
 /// | 3 | a call on the files or on the opened file failed |
-/// | 4 | a call on `out` failed; it holds a front of what was to be printed |
+/// | 4 | a call on `out` failed; it holds a prefix of what was to be printed |
 /// | 6 | the verifier refused a reply that `watch` had altered |
 /// | 8 | the formula's circuit passes a limit of circuits, or else one of solving |
 /// | 9 | memory ran out |
@@ -60,17 +63,16 @@ pub fn run<F: Files, E: Entropy, W: Watch, O: Sink>(
     watch: &mut W,
     out: &mut O,
 ) -> u8
-    // What is told has come, and what is printed is its text.
-    ensures says { Says (request_of words.now.items) (record {
-      files = F.files files.old;
-      seeds = E.seeds entropy.old;
-      seeds_after = E.seeds entropy.new;
-      alters = W.alters watch.old;
-      seen = W.frames watch.old;
-      seen_after = W.frames watch.new;
-    }) result (O.held out.old) (O.held out.new) }
+    // 10 and 20 of `solve` tell the truth of the formula that the file spells, whatever failed; so do they of `certify`, if the watch
+    // alters nothing.
+    ensures tells { Tells (request_of (map string_bytes words.now.items)) (F.files files.old) result }
+    ensures tells_certified { TellsCertified (request_of (map string_bytes words.now.items)) (record { files = F.files files.old; alters = W.alters watch.old }) result }
 
-    // A fault is told only where one was, and none is passed over.
+    // Everything printed is true, and belongs to what was done outside.
+    ensures says { (deed : Deed) × IsDeed (E.seeds entropy.old) (E.seeds entropy.new) (W.frames watch.old) (W.frames watch.new) deed
+        × Runs (request_of (map string_bytes words.now.items)) (record { files = F.files files.old; alters = W.alters watch.old }) deed result (O.held out.old) (O.held out.new) }
+
+    // A fault is told only if there was one, and none is passed over.
     ensures read_fault { result ≡ 3 → Rose (F.faults files.old) (F.faults files.new) }
     ensures write_fault { result ≡ 4 → Rose (O.faults out.old) (O.faults out.new) }
     ensures entropy_fault { result ≡ 11 → Rose (E.faults entropy.old) (E.faults entropy.new) }
@@ -78,23 +80,21 @@ pub fn run<F: Files, E: Entropy, W: Watch, O: Sink>(
     ensures passes_no_entropy_fault { result ≢ 11 → result ≢ 4 → E.faults entropy.new ≡ E.faults entropy.old }
     ensures passes_no_write_fault { result ≢ 4 → O.faults out.new ≡ O.faults out.old }
 
-    // Where nothing failed, the status follows from the words and the file.
-    ensures usage { ¬ (Rose (O.faults out.old) (O.faults out.new)) → request_of words.now.items ≡ None → IsOrNoMemory result 1 }
+    // If nothing failed, the status follows from the words and the file.
+    ensures usage { ¬ (Rose (O.faults out.old) (O.faults out.new)) → request_of (map string_bytes words.now.items) ≡ None → IsOrNoMemory result 1 }
     ensures solves { ¬ (Rose (F.faults files.old) (F.faults files.new)) → ¬ (Rose (O.faults out.old) (O.faults out.new))
-        → Solves (request_of words.now.items) (F.files files.old) result }
+        → Solves (request_of (map string_bytes words.now.items)) (record { files = F.files files.old; alters = W.alters watch.old }) result }
     ensures certifies { ¬ (Rose (F.faults files.old) (F.faults files.new)) → ¬ (Rose (O.faults out.old) (O.faults out.new))
         → ¬ (Rose (E.faults entropy.old) (E.faults entropy.new)) → W.alters watch.old ≡ false
-        → Certifies (request_of words.now.items) (F.files files.old) result }
+        → Certifies (request_of (map string_bytes words.now.items)) (record { files = F.files files.old; alters = W.alters watch.old }) result }
     ensures exercises { ¬ (Rose (O.faults out.old) (O.faults out.new)) → W.alters watch.old ≡ false
-        → Exercises (request_of words.now.items) result }
+        → Exercises (request_of (map string_bytes words.now.items)) result }
     ensures limits_second { ¬ (Rose (O.faults out.old) (O.faults out.new)) → W.alters watch.old ≡ false
-        → LimitsSecond (request_of words.now.items) result }
-    ensures limits_solving { ¬ (Rose (F.faults files.old) (F.faults files.new)) → ¬ (Rose (O.faults out.old) (O.faults out.new))
-        → LimitsSolving (request_of words.now.items) (F.files files.old) result }
-    ensures limits_circuit { ¬ (Rose (F.faults files.old) (F.faults files.new)) → ¬ (Rose (O.faults out.old) (O.faults out.new))
-        → LimitsCircuit (request_of words.now.items) (F.files files.old) result }
+        → LimitsSecond (request_of (map string_bytes words.now.items)) result }
+    ensures limits { ¬ (Rose (F.faults files.old) (F.faults files.new)) → ¬ (Rose (O.faults out.old) (O.faults out.new))
+        → Limits (request_of (map string_bytes words.now.items)) (record { files = F.files files.old; alters = W.alters watch.old }) result }
     ensures refuses { ¬ (Rose (F.faults files.old) (F.faults files.new)) → ¬ (Rose (O.faults out.old) (O.faults out.new))
-        → Refuses (request_of words.now.items) (F.files files.old) result }
+        → Refuses (request_of (map string_bytes words.now.items)) (record { files = F.files files.old; alters = W.alters watch.old }) result }
 {
     perform(alloc, words, files, entropy, watch, out)
 }
@@ -108,14 +108,8 @@ fn perform<F: Files, E: Entropy, W: Watch, O: Sink>(
     watch: &mut W,
     out: &mut O,
 ) -> u8
-    ensures says { Says (request_of words.now) (record {
-      files = F.files files.old;
-      seeds = E.seeds entropy.old;
-      seeds_after = E.seeds entropy.new;
-      alters = W.alters watch.old;
-      seen = W.frames watch.old;
-      seen_after = W.frames watch.new;
-    }) result (O.held out.old) (O.held out.new) }
+    ensures says { (deed : Deed) × IsDeed (E.seeds entropy.old) (E.seeds entropy.new) (W.frames watch.old) (W.frames watch.new) deed
+        × Runs (request_of (map string_bytes words.now)) (record { files = F.files files.old; alters = W.alters watch.old }) deed result (O.held out.old) (O.held out.new) }
     ensures read_fault { result ≡ 3 → Rose (F.faults files.old) (F.faults files.new) }
     ensures write_fault { result ≡ 4 → Rose (O.faults out.old) (O.faults out.new) }
     ensures entropy_fault { result ≡ 11 → Rose (E.faults entropy.old) (E.faults entropy.new) }
@@ -141,102 +135,93 @@ fn decide<F: Files, E: Entropy, W: Watch, O: Sink>(
     watch: &mut W,
     out: &mut O,
 ) -> Option<Outcome>
-    ensures decides { Decides (request_of words.now) (record {
-      files = F.files files.old;
-      seeds = E.seeds entropy.old;
-      seeds_after = E.seeds entropy.new;
-      alters = W.alters watch.old;
-      seen = W.frames watch.old;
-      seen_after = W.frames watch.new;
-    }) (O.held out.old) (O.held out.new) result }
-    ensures cause { DecideCounts (F.faults files.old) (F.faults files.new) (E.faults entropy.old) (E.faults entropy.new) (O.faults out.old) (O.faults out.new) result }
+    ensures decides { (deed : Deed) × IsDeed (E.seeds entropy.old) (E.seeds entropy.new) (W.frames watch.old) (W.frames watch.new) deed
+        × DecidesAll (request_of (map string_bytes words.now)) (record { files = F.files files.old; alters = W.alters watch.old }) deed (O.held out.old) (O.held out.new) result }
+    ensures read_cause { Counts TheFiles (fault_in result) (F.faults files.old) (F.faults files.new) }
+    ensures entropy_cause { Counts TheEntropy (fault_in result) (E.faults entropy.old) (E.faults entropy.new) }
+    ensures write_cause { WriteCounts result (O.faults out.old) (O.faults out.new) }
 {
-    match parse_arguments(alloc, words) {
-        Ok(Some(Arguments::Solve(asked))) => Some(solve(alloc, &asked, files)),
-        Ok(Some(Arguments::Certify(asked))) => certify(alloc, &asked, files, entropy, watch, out),
-        Ok(Some(Arguments::Exercise(asked))) => exercise(alloc, &asked, entropy, watch, out),
+    match parse(alloc, words) {
+        Ok(Some(Request::Solve { file, options })) => Some(solve(alloc, file, &options, files)),
+        Ok(Some(Request::Certify { file, options })) => {
+            certify(alloc, file, &options, files, entropy, watch, out)
+        }
+        Ok(Some(Request::Exercise { pairs, options })) => {
+            exercise(alloc, pairs, &options, entropy, watch, out)
+        }
         Ok(None) => Some(Outcome::Usage),
-        Err(_) => Some(Outcome::NoMemory),
+        Err(NoMem) => Some(Outcome::NoMemory),
     }
 }
 
 // Certifies the formula of the file that is asked for.
 fn certify<F: Files, E: Entropy, W: Watch, O: Sink>(
     alloc: Global,
-    asked: &CertifyArguments<'_>,
+    file: &str,
+    options: &Options,
     files: &mut F,
     entropy: &mut E,
     watch: &mut W,
     out: &mut O,
 ) -> Option<Outcome>
-    ensures decides { Decides (Some (Certify (certify_asked_by asked.now))) (record {
-      files = F.files files.old;
-      seeds = E.seeds entropy.old;
-      seeds_after = E.seeds entropy.new;
-      alters = W.alters watch.old;
-      seen = W.frames watch.old;
-      seen_after = W.frames watch.new;
-    }) (O.held out.old) (O.held out.new) result }
-    ensures cause { DecideCounts (F.faults files.old) (F.faults files.new) (E.faults entropy.old) (E.faults entropy.new) (O.faults out.old) (O.faults out.new) result }
+    ensures decides { (deed : Deed) × IsDeed (E.seeds entropy.old) (E.seeds entropy.new) (W.frames watch.old) (W.frames watch.new) deed
+        × DecidesAll (Some (Certify file.now options.now)) (record { files = F.files files.old; alters = W.alters watch.old }) deed (O.held out.old) (O.held out.new) result }
+    ensures read_cause { Counts TheFiles (fault_in result) (F.faults files.old) (F.faults files.new) }
+    ensures entropy_cause { Counts TheEntropy (fault_in result) (E.faults entropy.old) (E.faults entropy.new) }
+    ensures write_cause { WriteCounts result (O.faults out.old) (O.faults out.new) }
 {
-    match read_file(alloc, asked.file, files) {
+    match read_file(alloc, file, files) {
         Ok(formula) => {
-            let manner = Manner {
-                nodes: asked.nodes,
-                pairs: asked.pairs,
-                seed: asked.seed,
+            let options = CertifyOptions {
+                options: *options,
                 first: 0,
-                talk: asked.talk,
             };
-            certify_formula(alloc, &formula, &manner, entropy, watch, out)
+            certify_formula(alloc, &formula, &options, entropy, watch, out)
         }
-        Err(error) => Some(Outcome::NotRead(error)),
+        Err(error) => Some(Outcome::Stopped(Stop::NotRead(error))),
     }
 }
 
 // Solves the formula of the file that is asked for.
-fn solve<F: Files>(alloc: Global, asked: &SolveArguments<'_>, files: &mut F) -> Outcome
-    ensures says { SolvesFile (F.files files.old) (asked_by asked.now) result }
-    ensures cause { OutcomeCounts (F.faults files.old) (F.faults files.new) 0 0 result }
+fn solve<F: Files>(alloc: Global, file: &str, options: &Options, files: &mut F) -> Outcome
+    ensures says { (alters : Bool) → Says (first_job (Solve file.now options.now)) (record { files = F.files files.old; alters = alters }) nothing result }
+    ensures read_cause { Counts TheFiles (fault_of result) (F.faults files.old) (F.faults files.new) }
+    ensures no_seed_fault { (n : ℕ) → Counts TheEntropy (fault_of result) n n }
 {
-    match read_file(alloc, asked.file, files) {
-        Ok(formula) => solve_formula(alloc, &formula, asked.nodes, asked.pairs),
-        Err(error) => Outcome::NotRead(error),
+    match read_file(alloc, file, files) {
+        Ok(formula) => solve_formula(alloc, &formula, options),
+        Err(error) => Outcome::Stopped(Stop::NotRead(error)),
     }
 }
 
 // Solves a formula whose circuit is within its limits.
-fn solve_formula(alloc: Global, formula: &Formula, nodes: u32, pairs: u32) -> Outcome
-    ensures { SaysOfFormula formula.now (record { nodes = nodes; pairs = pairs }) result }
+fn solve_formula(alloc: Global, formula: &Formula, options: &Options) -> Outcome
+    ensures says { (alters : Bool) → Says (solve_job (Made (problem_of formula.now)) (limits_of options.now)) (record { files = None; alters = alters }) nothing result }
+    ensures calm { fault_of result ≡ None }
 {
     match build(alloc, formula, 0, 1) {
-        Ok(circuit) => solve_circuit(alloc, formula, &circuit, nodes, pairs),
-        Err(CircuitError::TooManyClaims { node, claims }) => Outcome::TooManyClaims(node, claims),
-        Err(CircuitError::TooManyPoints { points }) => Outcome::TooManyPoints(points),
-        Err(CircuitError::NoMem) => Outcome::NoMemory,
+        Ok(circuit) => solve_circuit(alloc, formula, &circuit, options),
+        Err(error) => Outcome::Stopped(Stop::NotBuilt(error)),
     }
 }
 
 // Solves the formula's circuit.
-fn solve_circuit(
-    alloc: Global,
-    formula: &Formula,
-    circuit: &Circuit,
-    nodes: u32,
-    pairs: u32,
-) -> Outcome
-    requires circuit { circuit.now ≡ circuit_of formula.now }
-    requires small { HasSmallCircuit formula.now }
-    ensures { SaysOfFormula formula.now (record { nodes = nodes; pairs = pairs }) result }
+fn solve_circuit(alloc: Global, formula: &Formula, circuit: &Circuit, options: &Options) -> Outcome
+    requires circuit { circuit.now ≡ (problem_of formula.now).circuit }
+    requires small { HasSmallCircuit (problem_of formula.now) }
+    ensures says { (alters : Bool) → Says (solve_job (Made (problem_of formula.now)) (limits_of options.now)) (record { files = None; alters = alters }) nothing result }
+    ensures calm { fault_of result ≡ None }
 {
     formula.is_within_limits();
     circuit_law();
     shape_law();
     boolean_value_law();
-    match Plan::solve(alloc, circuit, nodes, pairs) {
-        Ok(plan) => Outcome::Solved(plan.answer(), formula.vars(), formula.clause_count()),
-        Err(SolveError::PairLimit { node }) => Outcome::TooManyPairs(node),
-        Err(SolveError::NodeLimit { node }) => Outcome::TooManyNodes(node),
-        Err(SolveError::NoMem) => Outcome::NoMemory,
+    match answer(alloc, circuit, options.nodes, options.pairs) {
+        Ok(truth) => Outcome::Done(End::Solved(Answer {
+            truth,
+            vars: formula.vars(),
+            clauses: formula.clause_count(),
+        })),
+        Err(error) => Outcome::Stopped(Stop::NotSolved(error)),
     }
 }

@@ -1,5 +1,5 @@
 use Rattle.std.proofs.Common.{ap, subst}
-use Rattle.blic_top.specs.DrawRun.{draw_from}
+use Rattle.blic_draw.specs.DrawRun.{draw_from}
 use Rattle.blic_top.specs.Talking.{IsTalk}
 use Rattle.blic_top.proofs.certify.hold_counted.Goals as goal
 

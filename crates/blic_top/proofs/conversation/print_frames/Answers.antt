@@ -1,6 +1,6 @@
 use Rattle.std.proofs.Common.{[], ◌++◌, append-nil, subst, sym}
-use Rattle.blic_top.specs.Printing.{Prints, frame_line}
-use Rattle.blic_top.proofs.Printed.{longer_front, prints_after}
+use Rattle.blic_print.specs.Printing.{Prints, frame_line}
+use Rattle.blic_print.proofs.Printed.{longer_front, prints_after}
 use Rattle.blic_top.proofs.conversation.print_frames.Goals as goal
 
 pub returns-in-Ok-clause-bytes : goal.returns-in-Ok-clause-bytes

@@ -1,4 +1,4 @@
-use Rattle.blic_top.proofs.Saying.{reads_by}
+use Rattle.blic_top.proofs.Reading.{reads_by}
 use Rattle.blic_top.proofs.file.read_file.Goals as goal
 
 pub returns-in-Source-clause-says : goal.returns-in-Source-clause-says

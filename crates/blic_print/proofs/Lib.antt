@@ -1,0 +1,4 @@
+mod Digits
+mod Lines
+pub mod Printed
+mod Waiting

@@ -1,0 +1,77 @@
+-- From what the calls of a command decide to what the request may say.
+use Rattle.std.proofs.Common.{ℕ, ◌≡◌, refl, subst, List, Bool, inl, inr, take}
+use Rattle.std.specs.Prelude.{Option, Some, None}
+use Rattle.std.specs.Io.KnownBytes.{append_known}
+use Rattle.blic_model.specs.Formula.{PrenexFormula}
+use Rattle.blic_qdimacs.specs.declared.error.ReadError.{ReadError}
+use Rattle.blic_words.specs.declared.options.Options.{Options}
+use Rattle.blic_words.specs.Requests.{Request, Certify, Solve, Exercise}
+use Rattle.blic_top.specs.Problem.{problem_of}
+use Rattle.blic_top.specs.Deed.{Told, Deed, nothing, IsDeed}
+use Rattle.blic_top.specs.Jobs.{Certifying, Made, certify_job, first_job, limits_of, seeding_of}
+use Rattle.blic_top.specs.Stops.{IsFileOf, MayRefuse}
+use Rattle.blic_top.specs.Ends.{Says}
+use Rattle.blic_top.specs.Means.{Means, Runs}
+use Rattle.blic_top.specs.Outcome.{status_of, text_of}
+use Rattle.blic_top.specs.Deciding.{Decides, DecidesAll}
+use Rattle.blic_top.specs.declared.outcome.Stop.TheVariants.{NotRead}
+use Rattle.blic_top.specs.declared.outcome.Outcome.{Outcome}
+use Rattle.blic_top.specs.declared.outcome.Outcome.TheVariants.{Usage, NoMemory, Stopped}
+use Rattle.blic_basic.proofs.Appended.{append_known-append}
+use Rattle.std.proofs.Common.{◌∙◌, ap}
+use Rattle.blic_top.proofs.Certified.{quiet}
+use Rattle.blic_top.proofs.Onward.{nothing_more}
+use Rattle.blic_top.proofs.Subjects.{Files, of_file, printing_of_file}
+
+-- a file's formula was certified, or why not
+pub certified_file : (files : Files) (alters : Bool) (file : List ℕ) (o : Options) (f : PrenexFormula) (deed : Deed) (old new : Option (List ℕ)) (result : Option Outcome) → IsFileOf f files file
+    → Decides (certify_job (Made (problem_of f)) (limits_of o) o.seed 0 o.talk) (record { files = None; alters = alters }) deed old new result
+    → DecidesAll (Some (Certify file o)) (record { files = files; alters = alters }) deed old new result
+certified_file files alters file o f deed old new (Some outcome) is_file (says, lines) =
+    (of_file files alters file f (Some (limits_of o)) (seeding_of o.seed) (Certifying o.seed 0 o.talk) deed outcome is_file says, lines)
+certified_file files alters file o f deed old new None is_file (piece, printing, cut) =
+    (piece, printing_of_file files alters file f (Some (limits_of o)) (seeding_of o.seed) (Certifying o.seed 0 o.talk) deed piece is_file printing, cut)
+
+pub certified_refusal : (files : Files) (alters : Bool) (file : List ℕ) (o : Options) (error : ReadError) (seeds : Option (ℕ → Option (List ℕ))) (seen : Option (List (List ℕ))) (held : Option (List ℕ))
+    → MayRefuse files file error
+    → (deed : Deed) × IsDeed seeds seeds seen seen deed × DecidesAll (Some (Certify file o)) (record { files = files; alters = alters }) deed held held (Some (Stopped (NotRead error)))
+certified_refusal files alters file o error seeds seen held may = (nothing, quiet seeds seen, ((may, refl), nothing_more held))
+
+-- a file's formula was solved, or why not
+pub solved_file : (files : Files) (alters : Bool) (file : List ℕ) (o : Options) (seeds : Option (ℕ → Option (List ℕ))) (seen : Option (List (List ℕ))) (held : Option (List ℕ)) (outcome : Outcome)
+    → Says (first_job (Solve file o)) (record { files = files; alters = alters }) nothing outcome
+    → (deed : Deed) × IsDeed seeds seeds seen seen deed × DecidesAll (Some (Solve file o)) (record { files = files; alters = alters }) deed held held (Some outcome)
+solved_file files alters file o seeds seen held outcome says = (nothing, quiet seeds seen, (says, nothing_more held))
+
+pub misused : (told : Told) (seeds : Option (ℕ → Option (List ℕ))) (seen : Option (List (List ℕ))) (held : Option (List ℕ))
+    → (deed : Deed) × IsDeed seeds seeds seen seen deed × DecidesAll None told deed held held (Some Usage)
+misused told seeds seen held = (nothing, quiet seeds seen, (refl, nothing_more held))
+
+no_memory : (request : Option Request) (told : Told) → Means request told nothing NoMemory
+no_memory None told = refl
+no_memory (Some (Solve file o)) told = refl
+no_memory (Some (Certify file o)) told = refl
+no_memory (Some (Exercise pairs o)) told = inl (refl, refl)
+
+pub wanted : (request : Option Request) (told : Told) (seeds : Option (ℕ → Option (List ℕ))) (seen : Option (List (List ℕ))) (held : Option (List ℕ))
+    → (deed : Deed) × IsDeed seeds seeds seen seen deed × DecidesAll request told deed held held (Some NoMemory)
+wanted request told seeds seen held = (nothing, quiet seeds seen, (no_memory request told, nothing_more held))
+
+-- the words ask for this
+pub as_asked : (r request : Option Request) (told : Told) (seeds now : Option (ℕ → Option (List ℕ))) (seen seen_now : Option (List (List ℕ))) (old new : Option (List ℕ)) (result : Option Outcome) → r ≡ request
+    → (deed : Deed) × IsDeed seeds now seen seen_now deed × DecidesAll r told deed old new result → (deed : Deed) × IsDeed seeds now seen seen_now deed × DecidesAll request told deed old new result
+as_asked r request told seeds now seen seen_now old new result same d = (d.0, d.1, subst (λ q. DecidesAll q told d.0 old new result) same d.2)
+
+-- the last lines are printed, or a prefix of them
+pub runs : (request : Option Request) (told : Told) (deed : Deed) (old mid new : Option (List ℕ)) (outcome : Outcome) → DecidesAll request told deed old mid (Some outcome) → new ≡ append_known mid (text_of outcome)
+    → Runs request told deed (status_of outcome) old new
+runs request told deed old mid new outcome (means, lines) printed =
+    inl (outcome, means, refl, printed ∙ (ap (λ h. append_known h (text_of outcome)) lines ∙ append_known-append old deed.lines (text_of outcome)))
+
+pub runs_short : (request : Option Request) (told : Told) (deed : Deed) (old mid new : Option (List ℕ)) (outcome : Outcome) → DecidesAll request told deed old mid (Some outcome)
+    → (n : ℕ) × (new ≡ append_known mid (take n (text_of outcome))) → Runs request told deed 4 old new
+runs_short request told deed old mid new outcome (means, lines) (n, front) =
+    inr (inl (refl, (outcome, means, (n, front ∙ (ap (λ h. append_known h (take n (text_of outcome))) lines ∙ append_known-append old deed.lines (take n (text_of outcome)))))))
+
+pub runs_off : (request : Option Request) (told : Told) (deed : Deed) (old new : Option (List ℕ)) → DecidesAll request told deed old new None → Runs request told deed 4 old new
+runs_off request told deed old new (piece, printing, cut) = inr (inr (refl, (piece, printing, cut)))

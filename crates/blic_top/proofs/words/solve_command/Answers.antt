@@ -1,9 +1,0 @@
-use Rattle.std.proofs.Common.{ap₂, ◌∙◌}
-use Rattle.clap.specs.Words.{with_rule}
-use Rattle.blic_top.proofs.words.solve_command.Goals as goal
-
-pub returns : goal.returns
-returns c =
-    let with_file = c.in_ok-arg.ensures.shape c.required-file.ensures.local ∙ ap₂ with_rule c.new.ensures.app c.required-file.ensures.rule in
-    let with_nodes = c.in_ok-arg-2.ensures.shape c.option-nodes.ensures.local ∙ ap₂ with_rule with_file c.option-nodes.ensures.rule in
-    c.in_ok-command.ensures.shape c.option-pairs.ensures.local ∙ ap₂ with_rule with_nodes c.option-pairs.ensures.rule

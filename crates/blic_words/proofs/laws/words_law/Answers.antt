@@ -1,0 +1,5 @@
+use Rattle.blic_words.proofs.PlainWords.{certify_plain, exercise_decimal, exercise_plain, solve_plain}
+use Rattle.blic_words.proofs.laws.words_law.Goals as goal
+
+pub returns : goal.returns
+returns c = record { solve = solve_plain; certify = certify_plain; exercise = exercise_plain; decimal = exercise_decimal }

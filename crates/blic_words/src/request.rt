@@ -1,0 +1,13 @@
+// What a command is asked for.
+use crate::options::Options;
+
+/// What the words ask for. `'w` is the words' lifetime, which lend the file's name.
+#[derive(Clone, Copy)]
+pub enum Request<'w> {
+    /// Solve the formula of a file, within the options' limits.
+    Solve { file: &'w str, options: Options },
+    /// Solve the formula of a file and certify the answer, within the options' limits.
+    Certify { file: &'w str, options: Options },
+    /// Certify the formulas that are made from a number of pairs of variables, from 1 to 500.
+    Exercise { pairs: u32, options: Options },
+}
