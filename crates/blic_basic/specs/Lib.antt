@@ -1,3 +1,4 @@
+pub mod Adapters
 pub mod Memory
 pub mod Named
 pub mod Opening

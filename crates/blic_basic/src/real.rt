@@ -1,5 +1,6 @@
 // Adapters over the readers, files and writers of the system. What these hold is not told.
 ghost use Rattle.std.specs.Prelude.{◌≡◌, ◌<◌, ◌≤◌, IfOk, None, length};
+ghost use Rattle.blic_basic.specs.Adapters.{HasFlushed, HasRead, HasWritten};
 ghost use Rattle.blic_basic.specs.Outside.{Takes, TakeCounts, Gives, GiveCounts, one_more};
 ghost use Rattle.blic_basic.specs.Opening.{Opens, OpenCounts};
 
@@ -11,8 +12,8 @@ use std::io;
 use std::io::{Read, Write};
 use std::marker::Model;
 
-/// A source over a reader, as a file. Contracts see how many of its calls have failed. A read that
-/// was interrupted is a fault like any other.
+/// A source over a reader, as a file. Contracts see the reader, and how many calls have failed. A read that was interrupted is a fault
+/// like any other.
 #[derive(Drop)]
 pub struct RealSource<R> {
     reader: R,
@@ -20,24 +21,24 @@ pub struct RealSource<R> {
 }
 
 impl<R> Model for RealSource<R> {
-    ghost use Rattle.std.specs.Prelude.{ℕ};
+    ghost use Rattle.blic_basic.specs.Adapters.{Counted};
 
-    ghost Value = { ℕ };
+    ghost Value = { Counted R };
 
-    ghost view = { λ s. s.faults };
+    ghost view = { λ s. record { inner = s.reader; faults = s.faults } };
 }
 
 impl<R: Read> RealSource<R> {
     /// A source of what the reader reads. No call has failed so far.
     pub fn new(reader: R) -> RealSource<R>
-        ensures { result ≡ 0 }
+        ensures { result ≡ record { inner = reader; faults = 0 } }
     {
         RealSource { reader, faults: 0 }
     }
 
     /// How many calls have failed. The count stops at its last value.
     pub fn faults(&self) -> u64
-        ensures { result ≡ self.now }
+        ensures { result ≡ self.now.faults }
     {
         self.faults
     }
@@ -46,13 +47,14 @@ impl<R: Read> RealSource<R> {
 impl<R: Read> Source for RealSource<R> {
     ghost left = { λ _. None };
 
-    ghost faults = { λ faults. faults };
+    ghost faults = { λ s. s.faults };
 
     fn take(&mut self, buf: &mut [u8]) -> Taken
         requires { 0 < length buf.old }
         ensures bytes { Takes None None result buf.new }
-        ensures cause { TakeCounts self.old self.new result }
-        ensures fault { result ≡ Taken.Failed → self.new ≡ one_more self.old }
+        ensures cause { TakeCounts self.old.faults self.new.faults result }
+        ensures fault { result ≡ Taken.Failed → self.new.faults ≡ one_more self.old.faults }
+        ensures read { HasRead (R.remaining self.old.inner) (R.remaining self.new.inner) result buf.new }
     {
         match self.reader.read(buf) {
             Ok(0) => Taken::End,
@@ -105,7 +107,7 @@ impl<'a, R: std::rt::Files> Files for RealFiles<'a, R> {
     ghost faults = { λ faults. faults };
 
     fn open_file(&mut self, name: &str) -> Opened<RealSource<R::File>>
-        ensures bytes { Opens (λ _. None) (λ faults. faults) None name.now result }
+        ensures bytes { Opens (λ _. None) (λ s. s.faults) None name.now result }
         ensures cause { OpenCounts self.old self.new result }
         ensures fault { result ≡ Opened.Failed → self.new ≡ one_more self.old }
     {
@@ -123,8 +125,7 @@ impl<'a, R: std::rt::Files> Files for RealFiles<'a, R> {
     }
 }
 
-/// A sink over a writer, as standard output. Each call writes and flushes. Contracts see how many
-/// of its calls have failed.
+/// A sink over a writer, as standard output. Each call writes and flushes. Contracts see the writer, and how many calls have failed.
 #[derive(Drop)]
 pub struct StdoutSink<W> {
     writer: W,
@@ -132,41 +133,51 @@ pub struct StdoutSink<W> {
 }
 
 impl<W> Model for StdoutSink<W> {
-    ghost use Rattle.std.specs.Prelude.{ℕ};
+    ghost use Rattle.blic_basic.specs.Adapters.{Counted};
 
-    ghost Value = { ℕ };
+    ghost Value = { Counted W };
 
-    ghost view = { λ s. s.faults };
+    ghost view = { λ s. record { inner = s.writer; faults = s.faults } };
 }
 
 impl<W: Write> StdoutSink<W> {
     /// A sink to the writer. No call has failed so far.
     pub fn new(writer: W) -> StdoutSink<W>
-        ensures { result ≡ 0 }
+        ensures { result ≡ record { inner = writer; faults = 0 } }
     {
         StdoutSink { writer, faults: 0 }
     }
 
     /// How many calls have failed. The count stops at its last value.
     pub fn faults(&self) -> u64
-        ensures { result ≡ self.now }
+        ensures { result ≡ self.now.faults }
     {
         self.faults
+    }
+}
+
+impl<W: Write> StdoutSink<W> {
+    /// The writer.
+    pub fn into_writer(self) -> W
+        ensures { result ≡ self.inner }
+    {
+        self.writer
     }
 }
 
 impl<W: Write> Sink for StdoutSink<W> {
     ghost held = { λ _. None };
 
-    ghost faults = { λ faults. faults };
+    ghost faults = { λ s. s.faults };
 
     /// Writes the piece, or a front of it, and flushes. It fails where either fails, and where no
     /// byte was written. After a flush that failed, some of the bytes may have been written.
     fn give(&mut self, piece: &[u8]) -> Given
         requires { 0 < length piece.now }
         ensures bytes { Gives None None result piece.now }
-        ensures cause { GiveCounts self.old self.new result }
-        ensures fault { result ≡ Given.Failed → self.new ≡ one_more self.old }
+        ensures cause { GiveCounts self.old.faults self.new.faults result }
+        ensures fault { result ≡ Given.Failed → self.new.faults ≡ one_more self.old.faults }
+        ensures written { HasWritten (W.contents self.old.inner) (W.contents self.new.inner) result piece.now }
     {
         match write_and_flush(&mut self.writer, piece) {
             Ok(count) if 0 < count => Given::Took(count),
@@ -180,7 +191,8 @@ impl<W: Write> Sink for StdoutSink<W> {
 
 // How many bytes were written.
 fn write_and_flush<W: Write>(writer: &mut W, piece: &[u8]) -> io::Result<usize>
-    ensures { IfOk result (λ count. count ≤ length piece.now) }
+    ensures bound { IfOk result (λ count. count ≤ length piece.now) }
+    ensures written { HasFlushed (W.contents writer.old) (W.contents writer.new) result piece.now }
 {
     let count = writer.write(piece)?;
     writer.flush()?;

@@ -4,7 +4,8 @@ use crate::{
     MemWatch, NoWatch, Opened, RandomFile, RealFiles, RealSource, Seeded, Sink, Source, StdoutSink,
     Steps, SureEntropy, SureFiles, SureSink, Taken, Watch, Wrote, write_all_counted,
 };
-use std::alloc::{AllocError, Global};
+use std::alloc::{AllocError, Allocator, Global};
+use std::io::Write;
 use std::marker::Brand;
 use std::mem::size_of;
 use std::test::Fail;
@@ -182,6 +183,64 @@ fn a_writer_that_takes_no_more_is_a_fault(rt: HostRuntime) {
     assert_eq!(rt; full.faults(), 1);
 }
 
+// A writer that takes so many bytes a call, and whose writes or flushes fail from one of them on.
+#[derive(Drop)]
+struct Failing {
+    held: Vec<u8>,
+    most: usize,
+    writes: u32,
+    flushes: u32,
+}
+
+impl Write for Failing {
+    fn write(&mut self, buf: &[u8]) -> io::Result<usize> {
+        if self.writes == 0 {
+            return Err(io::Error::from(io::ErrorKind::BrokenPipe));
+        }
+        self.writes -= 1;
+        let count = buf.len().min(self.most);
+        self.held.extend_from_slice(&buf[..count])?;
+        Ok(count)
+    }
+
+    fn flush(&mut self) -> io::Result<()> {
+        if self.flushes == 0 {
+            return Err(io::Error::from(io::ErrorKind::StorageFull));
+        }
+        self.flushes -= 1;
+        Ok(())
+    }
+}
+
+#[test]
+fn a_write_or_a_flush_that_fails_is_a_fault(rt: HostRuntime) {
+    // bytes a call, writes and flushes that succeed, what is answered, and what the writer holds
+    let rows = [
+        (2, 9, 9, Wrote::All, "hello"),
+        (9, 9, 9, Wrote::All, "hello"),
+        (2, 2, 9, Wrote::Failed(4), "hell"),
+        (2, 9, 2, Wrote::Failed(4), "hello"),
+        (9, 0, 9, Wrote::Failed(0), ""),
+        (9, 9, 0, Wrote::Failed(0), "hello"),
+        (0, 9, 9, Wrote::Failed(0), ""),
+    ];
+    for (most, writes, flushes, wrote, held) in rows {
+        let mut out = StdoutSink::new(Failing {
+            held: Vec::new(rt.alloc()),
+            most,
+            writes,
+            flushes,
+        });
+        assert_eq!(rt;
+            write_all_counted(&mut out, b"hello"),
+            wrote,
+            "with {held:?} held"
+        );
+        assert_eq!(rt; out.faults(), u64::from(wrote != Wrote::All));
+        assert_eq!(rt; out.into_writer().held.as_slice(), held.as_bytes());
+    }
+}
+
 #[test]
 fn seeds_come_in_order_and_fail_at_the_listed_calls(rt: HostRuntime) -> Result<(), Fail> {
     let seeds = vec![in rt.alloc(); [1; 32], [2; 32]]?;
@@ -210,6 +269,81 @@ fn the_systems_seeds_differ(rt: HostRuntime) {
     assert!(rt; first != Seeded::Failed);
     assert!(rt; first != entropy.seed());
     assert_eq!(rt; entropy.faults(), 0);
+}
+
+// A system in which every file that is opened is another one, or none.
+#[derive(Drop)]
+struct Instead<'a, R> {
+    rt: &'a R,
+    path: Option<&'a str>,
+}
+
+fn missing<T>() -> io::Result<T> {
+    Err(io::Error::from(io::ErrorKind::NotFound))
+}
+
+impl<'a, R: std::rt::Files> std::rt::Files for Instead<'a, R> {
+    type File = R::File;
+
+    type Dir = R::Dir;
+
+    fn open_file(&self, how: &fs::OpenOptions, _: &str) -> io::Result<R::File> {
+        match self.path {
+            Some(path) => self.rt.open_file(how, path),
+            None => missing(),
+        }
+    }
+
+    fn open_dir(&self, _: &str) -> io::Result<R::Dir> {
+        missing()
+    }
+
+    fn metadata(&self, _: &str) -> io::Result<fs::Metadata> {
+        missing()
+    }
+
+    fn symlink_metadata(&self, _: &str) -> io::Result<fs::Metadata> {
+        missing()
+    }
+
+    fn copy(&self, _: &str, _: &str) -> io::Result<u64> {
+        missing()
+    }
+
+    fn rename(&self, _: &str, _: &str) -> io::Result<()> {
+        missing()
+    }
+
+    fn remove_file(&self, _: &str) -> io::Result<()> {
+        missing()
+    }
+
+    fn create_dir(&self, _: &str) -> io::Result<()> {
+        missing()
+    }
+
+    fn remove_dir(&self, _: &str) -> io::Result<()> {
+        missing()
+    }
+
+    fn remove_dir_all<B: Allocator>(&self, _: B, _: &str) -> io::Result<()> {
+        missing()
+    }
+}
+
+#[test]
+fn random_bytes_that_are_missing_or_too_few_are_faults(rt: HostRuntime) {
+    for (path, comes) in [
+        (None, false),
+        (Some("/dev/null"), false),
+        (Some("/dev/zero"), true),
+    ] {
+        let system = Instead { rt: &rt, path };
+        let mut entropy = RandomFile::new(&system);
+        assert_eq!(rt; entropy.seed() == Seeded::Seed([0; 32]), comes);
+        assert_eq!(rt; entropy.seed() == Seeded::Failed, !comes);
+        assert_eq!(rt; entropy.faults(), if comes { 0 } else { 2 });
+    }
 }
 
 fn passed<W: Watch>(watch: &mut W, came: [u8; 7]) -> [u8; 7] {
