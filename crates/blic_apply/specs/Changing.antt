@@ -1,5 +1,5 @@
--- One function changed: negated, or with a level's bit fixed.
-use Rattle.std.specs.Prelude.{ℕ, ◌<◌, ◌≤◌, ◌≡◌, ◌⊎◌, List}
+-- Private: one function changed: negated, or with a level's bit fixed.
+use Rattle.std.specs.Prelude.{ℕ, ◌<◌, ◌≤◌, ◌≡◌, List}
 use Rattle.blic_store.specs.declared.decision.Decision.{Decision}
 use Rattle.blic_store.specs.Function.{Function, Same}
 use Rattle.blic_store.specs.Diagram.{IsRef, function, high_of, level_of, low_of}
@@ -8,7 +8,7 @@ use Rattle.blic_apply.specs.PartTable.{HasBecome, IsNew, Table}
 use Rattle.blic_apply.specs.declared.change.Change.{Change}
 use Rattle.blic_apply.specs.declared.change.Change.TheVariants.{Negate, Fix}
 use Rattle.blic_apply.specs.declared.rewriting.Step.{Step}
-use Rattle.blic_apply.specs.declared.rewriting.Step.TheVariants.{Waits, Ready}
+use Rattle.blic_apply.specs.declared.rewriting.Step.TheVariants.{Low, High, Ready}
 
 -- the function changed
 abbrev pub changed : Change → Function → Function
@@ -34,17 +34,13 @@ pub record IsUnsettled (change : Change) (nodes : List Decision) (r : ℕ) : Typ
 abbrev pub HasChanged : Change → List Decision → Table → Type 0
 HasChanged change nodes table = (r s : ℕ) → HasBecome table r s → IsChanged change nodes r s
 
--- one of a ref's two sides
-abbrev pub IsSideOf : List Decision → ℕ → ℕ → Type 0
-IsSideOf nodes at r = (r ≡ low_of nodes at) ⊎ (r ≡ high_of nodes at)
-
--- a side of the ref that the table lacks
-pub record IsMissing (change : Change) (nodes : List Decision) (table : Table) (at r : ℕ) : Type 0 where
-  pub side : IsSideOf nodes at r
+-- a part that has to be changed
+pub record IsMissing (change : Change) (nodes : List Decision) (table : Table) (r : ℕ) : Type 0 where
   pub unsettled : IsUnsettled change nodes r
   pub unmade : IsNew table r
 
--- what is known of a ref's step: it waits for one of its sides, or both have become something
+-- what is known of a ref's step: one of its sides has to be changed, or both have become something
 abbrev pub IsStep : Change → List Decision → Table → ℕ → Step → Type 0
-IsStep change nodes table at (Waits r) = IsMissing change nodes table at r
+IsStep change nodes table at (Low r) = (r ≡ low_of nodes at) × IsMissing change nodes table r
+IsStep change nodes table at (High low r) = IsChanged change nodes (low_of nodes at) low × (r ≡ high_of nodes at) × IsMissing change nodes table r
 IsStep change nodes table at (Ready low high) = IsChanged change nodes (low_of nodes at) low × IsChanged change nodes (high_of nodes at) high

@@ -1,4 +1,4 @@
--- What is known of the refs that stand for combined functions.
+-- Private: what is known of the refs that stand for combined functions.
 use Rattle.std.specs.Prelude.{ℕ, ◌<◌, ◌≡◌, List, length, min, slice_index_or}
 use Rattle.blic_store.specs.declared.decision.Decision.{Decision}
 use Rattle.blic_store.specs.Function.{Same}

@@ -6,7 +6,7 @@ mod operation;
 mod part_table;
 mod rewriting;
 
-pub use operation::{Op, combine, fix, negate};
+pub use operation::{Op, Rewriter, combine, fix, negate};
 
 #[cfg(test)]
 mod tests;

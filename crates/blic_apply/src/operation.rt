@@ -7,10 +7,12 @@ ghost use Rattle.blic_apply.specs.Combining.{InRange, IsLeaf, IsResult, unit_of}
 ghost use Rattle.blic_apply.specs.Operations.{combined, negated, fixed};
 
 use crate::change::Change;
-use crate::rewriting::rewrite;
+use crate::part_table::PartTable;
+use crate::rewriting::{Waiting, rewrite};
 use blic_graph::{Graph, Side};
 use blic_store::{Ref, Store, StoreError};
 use std::alloc::Global;
+use std::vec::Vec;
 
 /// How two functions are combined.
 #[derive(Clone, Copy, Debug, PartialEq, Eq)]
@@ -100,6 +102,57 @@ pub fn combine(
     Ok(results[0])
 }
 
+/// Negates functions and fixes their levels, and keeps its buffers from one to the next.
+#[derive(Drop)]
+pub struct Rewriter {
+    made: PartTable,
+    waiting: Vec<Waiting>,
+}
+
+impl Rewriter {
+    /// A rewriter.
+    pub fn new(alloc: Global) -> Rewriter {
+        Rewriter {
+            made: PartTable::new(alloc),
+            waiting: Vec::new(alloc),
+        }
+    }
+
+    /// The function with the other value at each point. It takes time linear in its parts.
+    ///
+    /// Refuses as `combine` does.
+    pub fn negate(&mut self, store: &mut Store, a: Ref) -> Result<Ref, StoreError>
+        requires { IsRef store.old.nodes a }
+        ensures ok { IfOk result (λ r. Answers (negated (function store.old.nodes a)) store.old store.new r) }
+        ensures full { result ≡ Err StoreError.Full → PassesLimit (negated (function store.old.nodes a)) store.old }
+        ensures err { OnErr result (Adds (negated (function store.old.nodes a)) store.old.nodes store.new.nodes) }
+        ensures limit { store.new.limit ≡ store.old.limit }
+    {
+        let change = Change::Negate;
+        rewrite(&mut self.made, &mut self.waiting, store, change, a)
+    }
+
+    /// The function with a level's bit fixed. It takes time linear in its parts.
+    ///
+    /// Refuses as `combine` does.
+    pub fn fix(
+        &mut self,
+        store: &mut Store,
+        a: Ref,
+        level: u32,
+        bit: bool,
+    ) -> Result<Ref, StoreError>
+        requires { IsRef store.old.nodes a }
+        ensures ok { IfOk result (λ r. Answers (fixed level bit (function store.old.nodes a)) store.old store.new r) }
+        ensures full { result ≡ Err StoreError.Full → PassesLimit (fixed level bit (function store.old.nodes a)) store.old }
+        ensures err { OnErr result (Adds (fixed level bit (function store.old.nodes a)) store.old.nodes store.new.nodes) }
+        ensures limit { store.new.limit ≡ store.old.limit }
+    {
+        let change = Change::Fix { level, bit };
+        rewrite(&mut self.made, &mut self.waiting, store, change, a)
+    }
+}
+
 /// The function with the other value at each point. It takes time linear in its parts.
 ///
 /// Refuses as `combine` does.
@@ -110,7 +163,7 @@ pub fn negate(alloc: Global, store: &mut Store, a: Ref) -> Result<Ref, StoreErro
     ensures err { OnErr result (Adds (negated (function store.old.nodes a)) store.old.nodes store.new.nodes) }
     ensures limit { store.new.limit ≡ store.old.limit }
 {
-    rewrite(alloc, store, Change::Negate, a)
+    Rewriter::new(alloc).negate(store, a)
 }
 
 /// The function with a level's bit fixed. It takes time linear in its parts.
@@ -129,5 +182,5 @@ pub fn fix(
     ensures err { OnErr result (Adds (fixed level bit (function store.old.nodes a)) store.old.nodes store.new.nodes) }
     ensures limit { store.new.limit ≡ store.old.limit }
 {
-    rewrite(alloc, store, Change::Fix { level, bit }, a)
+    Rewriter::new(alloc).fix(store, a, level, bit)
 }

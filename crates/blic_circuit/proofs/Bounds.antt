@@ -78,9 +78,6 @@ few_levels f h =
     length-le_from_distinct_below (map (λ (b : Bound). b.var) f.prefix) (f.vars + 1) (distinct_vars f.prefix w.2) (vars_below f.vars f.prefix w.1) in
     omega (arith, length-map f.prefix (λ (b : Bound). b.var))
 
-pub formula_in_range : (f : PrenexFormula) → IsFormula f → are_in_range f.vars f.prefix ≡ true
-formula_in_range f h = (four (is_small f) (are_in_range f.vars f.prefix) (are_distinct f.prefix) (is_closed f.prefix f.clauses) h).1
-
 most_by_literals : (clauses : List (List Lit)) → most_nodes clauses ≡ 3 * sum_by length clauses + 2 * length clauses
 most_by_literals [] = refl
 most_by_literals (c ∷ cs) =

@@ -1,5 +1,5 @@
 pub mod Bounds
-pub mod Candidates
+pub mod Finding
 pub mod Halves
 pub mod Levels
 pub mod Literals

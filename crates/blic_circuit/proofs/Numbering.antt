@@ -1,7 +1,7 @@
 -- A node's number in a list is where it was found, and a node that is appended gets the list's length.
 use Rattle.std.proofs.Common.{◌≡◌, ℕ, zero, suc, ◌+◌, ◌<◌, ◌≤◌, List, [], ◌∷◌, ◌++◌, length, map, refl, ap, sym, ◌∙◌, inl, inr, arith, Bool, true, false, not, ◌&&◌, ◌||◌, cond, eqb, ltb, Option, Some, None}
 use Rattle.std.specs.List.{position_or_len, list_any}
-use Rattle.std.proofs.lemmas.Bool.{cases_lt, cases_Bool, eqb-true, eq-eqb, lt-ltb, le-ltb}
+use Rattle.std.proofs.lemmas.Bool.{cases_lt, cases_Bool, eq-eqb, lt-ltb, le-ltb, and_parts, false≢true}
 use Rattle.std.proofs.lemmas.List.{length-take, map-append}
 use Rattle.std.proofs.lemmas.List.Sums.{position_or_len_is}
 use Rattle.std.proofs.lemmas.List.Folds.{list_any_at, length-prefix_len, list_any-append}
@@ -11,34 +11,8 @@ use Rattle.blic_model.specs.declared.node.Node.TheVariants.{Const, Var, Not, Fix
 use Rattle.blic_model.specs.Circuit.{node_at}
 use Rattle.blic_model.specs.Building.{Added, same_bit, same_node, add_node}
 use Rattle.blic_model.specs.Shape.{all_differ}
+use Rattle.blic_model.proofs.Adding.{same_node_true}
 use Rattle.blic_circuit.specs.Numbers.{hash_of, number_of}
-
-wrong : false ≡ true → ⊥
-wrong q = cc
-
-both : (a b : Bool) → (a && b) ≡ true → (a ≡ true) × (b ≡ true)
-both a b h = grind arith
-
-same_bit_true : (b c : Bool) → same_bit b c ≡ true → b ≡ c
-same_bit_true true c h = sym h
-same_bit_true false true h = absurd (wrong h)
-same_bit_true false false h = refl
-
--- the test tells all nodes apart
-pub same_node_true : (m n : Node) → same_node m n ≡ true → m ≡ n
-same_node_true (Const b) (Const c) h = ap Const (same_bit_true b c h)
-same_node_true (Var x) (Var y) h = ap Var (eqb-true x y h)
-same_node_true (Not a) (Not b) h = ap Not (eqb-true a b h)
-same_node_true (Fix x b a) (Fix y c d) h =
-    let w = both (eqb x y) (same_bit b c && eqb a d) h in
-    let v = both (same_bit b c) (eqb a d) w.1 in
-    let p = eqb-true x y w.0 in
-    let q = same_bit_true b c v.0 in
-    let r = eqb-true a d v.1 in
-    λ i. Fix (p i) (q i) (r i)
-same_node_true (And a b) (And c d) h = let w = both (eqb a c) (eqb b d) h in ap₂ And (eqb-true a c w.0) (eqb-true b d w.1)
-same_node_true (Or a b) (Or c d) h = let w = both (eqb a c) (eqb b d) h in ap₂ Or (eqb-true a c w.0) (eqb-true b d w.1)
-same_node_true _ _ h = absurd (wrong h)
 
 three : (a b c : Bool) → a ≡ true → b ≡ true → c ≡ true → (a && (b && c)) ≡ true
 three a b c p q r = grind arith
@@ -57,7 +31,7 @@ same_node_itself (Or a b) = three true (eqb a a) (eqb b b) refl (eq-eqb a a refl
 
 same_node_swapped : (m n : Node) → same_node m n ≡ false → same_node n m ≡ false
 same_node_swapped m n h = elim (cases_Bool (same_node n m)) [
-  | inl t ↦ absurd (wrong (sym h ∙ (ap (same_node m) (same_node_true n m t) ∙ same_node_itself m)))
+  | inl t ↦ absurd (false≢true (sym h ∙ (ap (same_node m) (same_node_true n m t) ∙ same_node_itself m)))
   | inr f ↦ f
 ]
 
@@ -130,7 +104,7 @@ differ_pushed : (nodes : List Node) (n : Node) → all_differ nodes ≡ true →
 differ_pushed [] n d e = refl
 differ_pushed (x ∷ nodes) n d e =
     let w = nowhere n x nodes e in
-    let h = both (not (list_any (same_node x) nodes)) (all_differ nodes) d in
+    let h = and_parts (not (list_any (same_node x) nodes)) (all_differ nodes) d in
     let apart : not (list_any (same_node x) (nodes ++ n ∷ [])) ≡ true =
     ap not (list_any-append (same_node x) nodes (n ∷ [])) ∙ still (list_any (same_node x) nodes) (same_node x n) (all_differ nodes) d (same_node_swapped n x w.0) in
     let rest : all_differ (nodes ++ n ∷ []) ≡ true = differ_pushed nodes n h.1 w.1 in
@@ -146,11 +120,11 @@ places_differ : (nodes : List Node) → all_differ nodes ≡ true → (i j : ℕ
 places_differ [] d i j l m e = omega arith
 places_differ (x ∷ nodes) d i zero l m e = omega arith
 places_differ (x ∷ nodes) d zero (suc j) l m e =
-    let h = both (not (list_any (same_node x) nodes)) (all_differ nodes) d in
+    let h = and_parts (not (list_any (same_node x) nodes)) (all_differ nodes) d in
     let some = list_any_at (same_node x) nodes j (Const false) (omega arith) e in
-    wrong (sym (ap not some) ∙ h.0)
+    false≢true (sym (ap not some) ∙ h.0)
 places_differ (x ∷ nodes) d (suc i) (suc j) l m e =
-    places_differ nodes (both (not (list_any (same_node x) nodes)) (all_differ nodes) d).1 i j (omega arith) (omega arith) e
+    places_differ nodes (and_parts (not (list_any (same_node x) nodes)) (all_differ nodes) d).1 i j (omega arith) (omega arith) e
 
 -- a node that stands at a place has its number
 pub number_found : (nodes : List Node) (n : Node) (k : ℕ) → all_differ nodes ≡ true → k < length nodes → same_node n (node_at nodes k) ≡ true → Some k ≡ number_of nodes n

@@ -1,4 +1,4 @@
--- The numbers of the nodes of a list, and their hashes.
+-- Private: the numbers of the nodes of a list, and their hashes.
 use Rattle.std.specs.Prelude.{◌≡◌, ℕ, ◌+◌, ◌*◌, ◌%◌, true, List, length, map, Option, Some, None, cond, nat_lt}
 use Rattle.std.specs.List.{position_or_len}
 use Rattle.blic_model.specs.declared.node.Node.{Node}

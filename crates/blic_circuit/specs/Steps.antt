@@ -1,4 +1,4 @@
--- One step within a clause, and a bound on the nodes of many: words for the parts of the building.
+-- Private: one step within a clause, and a bound on the nodes of many: words for the parts of the building.
 use Rattle.std.specs.Prelude.{ℕ, ◌+◌, ◌*◌, List, length, sum_by}
 use Rattle.blic_model.specs.declared.node.Node.TheVariants.{Or}
 use Rattle.blic_model.specs.declared.prefix.Bound.{Bound}

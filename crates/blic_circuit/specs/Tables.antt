@@ -1,4 +1,4 @@
--- Tables indexed by variable, which spare the building a search for each literal and each level.
+-- Private: tables indexed by variable, which spare the building a search for each literal and each level.
 use Rattle.std.specs.Prelude.{◌≡◌, ℕ, ◌<◌, Bool, false, List, length, slice_index_or}
 use Rattle.blic_model.specs.declared.prefix.Bound.{Bound}
 use Rattle.blic_model.specs.declared.formula.Lit.{Lit}

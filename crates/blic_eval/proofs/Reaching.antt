@@ -5,21 +5,21 @@ use Rattle.blic_store.specs.declared.decision.Decision.{Decision}
 use Rattle.blic_store.specs.Canonical.{IsCanonical}
 use Rattle.blic_store.specs.Diagram.{IsRef, cofactor, decision_at, high_of, level_of, low_of}
 use Rattle.blic_store.proofs.Cofactors.{cofactor-here, cofactor-other}
+use Rattle.blic_store.proofs.Numbers.{once_few}
 use Rattle.blic_graph.specs.Pairs.{IsPairOf}
 use Rattle.blic_graph.proofs.Closed.{closed_has_all}
 use Rattle.blic_eval.specs.Reached.{IsAmong, IsReached}
-use Rattle.blic_eval.proofs.Numbering.{once_few}
 use Rattle.blic_eval.proofs.Walking.{among_more}
 
 -- There are no more of them than the store has decisions.
 pub reached_few : (nodes : List Decision) (a b : ℕ) (numbers : List ℕ) → IsReached nodes a b numbers → length numbers ≤ length nodes
-reached_few nodes a b numbers r = once_few numbers (length nodes) r.held r.once
+reached_few nodes a b numbers r = once_few numbers (length nodes) r.closed.held r.closed.once
 
 -- What is in the list is a ref.
 pub among_held : (nodes : List Decision) (a b : ℕ) (numbers : List ℕ) → IsReached nodes a b numbers → (r : ℕ) → IsAmong numbers (length numbers) r → IsRef nodes r
 among_held nodes a b numbers reached r h = elim h [
   | inl c ↦ omega arith
-  | inr w ↦ (let l = reached.held w.0 w.1 in let e = w.2 in omega arith)
+  | inr w ↦ (let l = reached.closed.held w.0 w.1 in let e = w.2 in omega arith)
 ]
 
 among_sides : (nodes : List Decision) (a b : ℕ) (numbers : List ℕ) → IsReached nodes a b numbers → (r : ℕ) → 2 ≤ r → IsAmong numbers (length numbers) r
@@ -28,8 +28,8 @@ among_sides nodes a b numbers reached r l h = elim h [
   | inl c ↦ absurd (omega arith)
   | inr w ↦ (let i = w.1 in let q = w.2 in
       let e : get_or numbers w.0 0 ≡ r - 2 = omega arith in (
-        subst (λ z. IsAmong numbers (length numbers) (decision_at nodes z).low) e (among_more numbers w.0 (length numbers) _ (omega arith) (reached.low w.0 w.1)),
-        subst (λ z. IsAmong numbers (length numbers) (decision_at nodes z).high) e (among_more numbers w.0 (length numbers) _ (omega arith) (reached.high w.0 w.1)),
+        subst (λ z. IsAmong numbers (length numbers) (decision_at nodes z).low) e (among_more numbers w.0 (length numbers) _ (omega arith) (reached.closed.low w.0 w.1)),
+        subst (λ z. IsAmong numbers (length numbers) (decision_at nodes z).high) e (among_more numbers w.0 (length numbers) _ (omega arith) (reached.closed.high w.0 w.1)),
       ))
 ]
 

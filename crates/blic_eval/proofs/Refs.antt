@@ -128,7 +128,7 @@ among_next nodes a b numbers reached i k r l e h = elim h [
     | inl same ↦ inl (w.2 ∙ ap (λ z. z + 2) (ap (λ z. get_or numbers z 0) same ∙ sym e))
     | inr n ↦ (let ne : w.0 ≢ i = n in
         let before : w.0 < i = omega arith in
-        inr (inr (w.0, before, w.2), (λ same. reached.once w.0 i before l (let back : get_or numbers w.0 0 ≡ k = omega arith in back ∙ e))))
+        inr (inr (w.0, before, w.2), (λ same. reached.closed.once w.0 i before l (let back : get_or numbers w.0 0 ≡ k = omega arith in back ∙ e))))
   ])
 ]
 
@@ -158,10 +158,10 @@ sides_among : (nodes : List Decision) (numbers : List ℕ) (i k : ℕ) → IsRea
     → (k < length nodes) × IsAmong numbers i (low_of nodes (k + 2)) × IsAmong numbers i (high_of nodes (k + 2))
 sides_among nodes numbers i k some l e =
     let back : get_or numbers i 0 ≡ (k + 2) - 2 = omega arith in
-    let held = some.reached.held i l in (
+    let held = some.reached.closed.held i l in (
       omega arith,
-      subst (λ z. IsAmong numbers i (decision_at nodes z).low) back (some.reached.low i l),
-      subst (λ z. IsAmong numbers i (decision_at nodes z).high) back (some.reached.high i l),
+      subst (λ z. IsAmong numbers i (decision_at nodes z).low) back (some.reached.closed.low i l),
+      subst (λ z. IsAmong numbers i (decision_at nodes z).high) back (some.reached.closed.high i l),
     )
 
 pub side_lines : (nodes : List Decision) (levels level : ℕ) (s : Point) (lines : List Lin) (numbers : List ℕ) (i k : ℕ) → IsReachedBySome nodes numbers → i < length numbers

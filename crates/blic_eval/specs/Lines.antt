@@ -1,4 +1,4 @@
--- Tables of the polynomials of refs along a line: each level but one is at a point.
+-- Private: tables of the polynomials of refs along a line: each level but one is at a point.
 use Rattle.std.specs.Prelude.{ℕ, zero, suc, ◌<◌, ◌≡◌, List, length, slice_index_or}
 use Rattle.blic_poly2.specs.declared.linear.Lin.{Lin}
 use Rattle.blic_poly2.specs.Poly.{lin_at, LinHasElements}

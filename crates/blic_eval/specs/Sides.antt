@@ -1,4 +1,4 @@
--- Tables of the polynomials of pairs.
+-- Private: tables of the polynomials of pairs.
 use Rattle.std.specs.Prelude.{ℕ, ◌+◌, ◌<◌, ◌≤◌, ◌≡◌, ◌==◌, nat_le, Bool, false, cond, fold, min, List, length, slice_index_or}
 use Rattle.blic_field.specs.Field.{blend}
 use Rattle.blic_field.specs.Quadratic.{Quadratic, at, HasElements}

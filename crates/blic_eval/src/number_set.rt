@@ -1,6 +1,7 @@
 // Sets of numbers that are emptied at no cost.
 ghost use Rattle.std.specs.Prelude.{◌≡◌, ◌<◌, ◌++◌, ◌∷◌, [], false, IfOk, IsTrue};
-ghost use Rattle.blic_eval.specs.Numbers.{Has, Lacks};
+ghost use Rattle.blic_store.specs.Numbers.{Lacks};
+ghost use Rattle.blic_eval.specs.Numbers.{Has};
 
 use blic_basic::NoMem;
 use std::alloc::Global;

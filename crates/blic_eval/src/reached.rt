@@ -1,9 +1,9 @@
 // The walk over the decisions that functions lead to.
-ghost use Rattle.std.specs.Prelude.{◌≡◌, ◌+◌, ◌<◌, ◌≤◌, IfNone, IfSome, length, vec_capacity};
+ghost use Rattle.std.specs.Prelude.{◌≡◌, ◌+◌, ◌-◌, ◌<◌, ◌≤◌, IfNone, IfSome, length, vec_capacity};
 ghost use Rattle.blic_store.specs.Diagram.{IsRef};
-ghost use Rattle.blic_eval.specs.Numbers.{Lacks};
-ghost use Rattle.blic_eval.specs.Reached.{IsAmong, IsReached};
-ghost use Rattle.blic_eval.specs.Walks.{AddsParts, HasSidesOf, IsClosed, IsMissingSide};
+ghost use Rattle.blic_store.specs.Numbers.{Lacks};
+ghost use Rattle.blic_eval.specs.Reached.{IsAmong, IsClosed, IsReached};
+ghost use Rattle.blic_eval.specs.Walks.{AddsParts, HasSidesOf, IsMissingSide};
 
 use crate::number_set::NumberSet;
 use blic_store::{Ref, Store};
@@ -11,7 +11,7 @@ use std::vec::Vec;
 
 /// Makes the set that of the decisions that `a` and `b` lead to, each after those that it leads to. It
 /// takes time linear in these. `path` is room for the walk.
-pub(crate) fn reach(store: &Store, a: Ref, b: Ref, set: &mut NumberSet, path: &mut Vec<u32>)
+pub(crate) fn reach(store: &Store, a: Ref, b: Ref, set: &mut NumberSet, path: &mut Vec<Ref>)
     requires a_held { IsRef store.now.nodes a }
     requires b_held { IsRef store.now.nodes b }
     requires room { length store.now.nodes ≤ set.old.room }
@@ -27,7 +27,7 @@ pub(crate) fn reach(store: &Store, a: Ref, b: Ref, set: &mut NumberSet, path: &m
 
 // Adds the decisions that the function leads to and the set lacks. Each decision on the path waits for
 // the one after it, which it leads to, and the last one waits for the one at hand.
-fn walk(store: &Store, r: Ref, set: &mut NumberSet, path: &mut Vec<u32>)
+fn walk(store: &Store, r: Ref, set: &mut NumberSet, path: &mut Vec<Ref>)
     requires held { IsRef store.now.nodes r }
     requires room { length store.now.nodes ≤ set.old.room }
     requires path { length store.now.nodes ≤ vec_capacity path.old }
@@ -50,7 +50,7 @@ fn walk(store: &Store, r: Ref, set: &mut NumberSet, path: &mut Vec<u32>)
                 at = side;
             }
             None => {
-                set.add(at);
+                set.add(at.number() - 2);
                 let Some(above) = path.pop() else {
                     return;
                 };
@@ -60,30 +60,30 @@ fn walk(store: &Store, r: Ref, set: &mut NumberSet, path: &mut Vec<u32>)
     }
 }
 
-// A decision that decision `k` leads to and the set lacks, if there is one.
-fn missing_side(store: &Store, set: &NumberSet, k: u32) -> Option<u32>
-    requires k { k < length store.now.nodes }
+// A side of the function whose decision the set lacks, if there is one.
+fn missing_side(store: &Store, set: &NumberSet, at: Ref) -> Option<Ref>
+    requires held { IsRef store.now.nodes at }
+    requires inner { 2 ≤ at }
     requires room { length store.now.nodes ≤ set.now.room }
-    ensures some { IfSome result (IsMissingSide store.now.nodes set.now.numbers k) }
-    ensures none { IfNone result (HasSidesOf store.now.nodes set.now.numbers k) }
+    ensures some { IfSome result (IsMissingSide store.now.nodes set.now.numbers at) }
+    ensures none { IfNone result (HasSidesOf store.now.nodes set.now.numbers at) }
 {
     store.canonical_law();
-    let r = Ref::numbered(k + 2);
-    match missing(set, store.low(r)) {
+    match missing(set, store.low(at)) {
         Some(low) => Some(low),
-        None => missing(set, store.high(r)),
+        None => missing(set, store.high(at)),
     }
 }
 
-// The function's decision, if it has one and the set lacks it.
-fn missing(set: &NumberSet, r: Ref) -> Option<u32>
+// The function, if it has a decision and the set lacks it.
+fn missing(set: &NumberSet, r: Ref) -> Option<Ref>
     requires { r < set.now.room + 2 }
-    ensures some { IfSome result (λ k. (r ≡ k + 2) × Lacks set.now.numbers k) }
+    ensures some { IfSome result (λ s. (s ≡ r) × (2 ≤ s) × Lacks set.now.numbers (s - 2)) }
     ensures none { IfNone result (IsAmong set.now.numbers (length set.now.numbers) r) }
 {
-    if r.is_const() {
-        return None;
+    if r.is_const() || set.contains(r.number() - 2) {
+        None
+    } else {
+        Some(r)
     }
-    let k = r.number() - 2;
-    if set.contains(k) { None } else { Some(k) }
 }

@@ -23,7 +23,7 @@ pub struct Scratch {
     pub(crate) reached: NumberSet,
     pub(crate) lines: Vec<Lin>,
     pub(crate) polys: Vec<Poly2>,
-    path: Vec<u32>,
+    path: Vec<Ref>,
 }
 
 impl Model for Scratch {

@@ -1,20 +1,19 @@
 -- A list of pairs that has the operands, and the children of each of its pairs, has all pairs; and the children of a pair are pairs.
-use Rattle.std.proofs.Common.{arith, ℕ, zero, suc, ◌+◌, ◌-◌, ◌<◌, ◌≤◌, ◌≡◌, ◌≢◌, refl, sym, ◌∙◌, subst, ◌⊎◌, inl, inr, List, [], ◌∷◌, ◌++◌, length, Bool, false, append_assoc, append-nil}
+use Rattle.std.proofs.Common.{arith, ℕ, ◌-◌, ◌<◌, ◌≤◌, ◌≡◌, ◌≢◌, refl, sym, ◌∙◌, subst, ◌⊎◌, inl, inr, List, [], ◌∷◌, ◌++◌, length, Bool, append_assoc, append-nil}
 use Rattle.std.specs.Prelude.{min}
 use Rattle.std.proofs.lemmas.Bool.{cases_eq, cases_lt}
-use Rattle.std.proofs.lemmas.List.{length_push}
 use Rattle.blic_store.specs.declared.decision.Decision.{Decision}
 use Rattle.blic_store.specs.Diagram.{cofactor, level_of, IsRef}
 use Rattle.blic_store.specs.Canonical.{IsCanonical}
 use Rattle.blic_store.specs.Under.{IsUnder}
 use Rattle.blic_store.proofs.Canonical.{same_ref}
 use Rattle.blic_store.proofs.Cofactors.{cofactor-other, is_cofactor}
-use Rattle.blic_store.proofs.Under.{pad_one, under_cofactor, under_constant, under_none}
+use Rattle.blic_store.proofs.Under.{length-padded, pad_to, padded, under_cofactor, under_constant, under_none}
 use Rattle.blic_graph.specs.Pairs.{IsInner, IsPairOf, level_of_pair}
 use Rattle.blic_graph.specs.Listing.{IsUnderBoth}
 
 -- A set of pairs that has the operands and is closed under fixing a pair's level.
-pub record IsClosed (nodes : List Decision) (a b : ℕ) (has : ℕ → ℕ → Type 0) : Type 0 where
+pub record HasRootAndChildren (nodes : List Decision) (a b : ℕ) (has : ℕ → ℕ → Type 0) : Type 0 where
   pub root : 2 ≤ a → 2 ≤ b → has a b
   pub child : (r s x : ℕ) (v : Bool) → has r s → x ≡ min (level_of nodes r) (level_of nodes s) → 2 ≤ cofactor nodes r x v → 2 ≤ cofactor nodes s x v → has (cofactor nodes r x v) (cofactor nodes s x v)
 
@@ -26,7 +25,7 @@ pub record IsWalk (nodes : List Decision) (a b : ℕ) (has : ℕ → ℕ → Typ
   pub second : IsUnder nodes b bits s
   pub listed : 2 ≤ r → 2 ≤ s → has r s
 
-walk_step : (nodes : List Decision) → IsCanonical nodes → (a b : ℕ) (has : ℕ → ℕ → Type 0) → IsClosed nodes a b has → (u : List Bool) (v : Bool) → IsWalk nodes a b has u → IsWalk nodes a b has (u ++ v ∷ [])
+walk_step : (nodes : List Decision) → IsCanonical nodes → (a b : ℕ) (has : ℕ → ℕ → Type 0) → HasRootAndChildren nodes a b has → (u : List Bool) (v : Bool) → IsWalk nodes a b has u → IsWalk nodes a b has (u ++ v ∷ [])
 walk_step nodes c a b has closed u v w = cases (cases_lt w.r 2) (cases_lt w.s 2)
   where
     inner : 2 ≤ w.r → 2 ≤ w.s → 2 ≤ cofactor nodes w.r (length u) v → 2 ≤ cofactor nodes w.s (length u) v → has (cofactor nodes w.r (length u) v) (cofactor nodes w.s (length u) v)
@@ -44,13 +43,13 @@ walk_step nodes c a b has closed u v w = cases (cases_lt w.r 2) (cases_lt w.s 2)
     cases (inr i) (inl j) = record { r = cofactor nodes w.r (length u) v; s = w.s; first = under_cofactor nodes c a u v w.r w.first i; second = under_constant nodes b u v w.s w.second j; listed = λ k l. absurd (omega arith) }
     cases (inr i) (inr j) = record { r = cofactor nodes w.r (length u) v; s = cofactor nodes w.s (length u) v; first = under_cofactor nodes c a u v w.r w.first i; second = under_cofactor nodes c b u v w.s w.second j; listed = λ k l. inner i j k l }
 
-walk_from : (nodes : List Decision) → IsCanonical nodes → (a b : ℕ) (has : ℕ → ℕ → Type 0) → IsClosed nodes a b has → (vs u : List Bool) → IsWalk nodes a b has u → IsWalk nodes a b has (u ++ vs)
+walk_from : (nodes : List Decision) → IsCanonical nodes → (a b : ℕ) (has : ℕ → ℕ → Type 0) → HasRootAndChildren nodes a b has → (vs u : List Bool) → IsWalk nodes a b has u → IsWalk nodes a b has (u ++ vs)
 walk_from nodes c a b has closed [] u w = subst (IsWalk nodes a b has) (sym (append-nil u)) w
 walk_from nodes c a b has closed (v ∷ vs) u w =
     subst (IsWalk nodes a b has) (append_assoc u (v ∷ []) vs) (walk_from nodes c a b has closed vs (u ++ v ∷ []) (walk_step nodes c a b has closed u v w))
 
 -- The law: each pair of functions under one prefix, neither constant, is in a closed set.
-pub closed_has_all : (nodes : List Decision) → IsCanonical nodes → (a b : ℕ) (has : ℕ → ℕ → Type 0) → IsRef nodes a → IsRef nodes b → IsClosed nodes a b has
+pub closed_has_all : (nodes : List Decision) → IsCanonical nodes → (a b : ℕ) (has : ℕ → ℕ → Type 0) → IsRef nodes a → IsRef nodes b → HasRootAndChildren nodes a b has
     → (r s : ℕ) → IsPairOf nodes a b r s → has r s
 closed_has_all nodes c a b has ha hb closed r s of =
     let hr = of.first_inner.held in let hs = of.second_inner.held in
@@ -80,27 +79,18 @@ pair_of_under nodes a b r s u i j = record {
 pub under_both_none : (nodes : List Decision) (a b : ℕ) → IsRef nodes a → IsRef nodes b → IsUnderBoth nodes a b a b
 under_both_none nodes a b h i = record { bits = []; first = under_none nodes a h; second = under_none nodes b i }
 
-record IsPadded (nodes : List Decision) (a b r s x : ℕ) : Type 0 where
-  pub bits : List Bool
-  pub long : length bits ≡ x
-  pub first : IsUnder nodes a bits r
-  pub second : IsUnder nodes b bits s
-
-pad_to : (nodes : List Decision) → IsCanonical nodes → (a b r s x d : ℕ) (u : List Bool) → length u + d ≡ x → x ≤ level_of nodes r → x ≤ level_of nodes s → IsUnder nodes a u r → IsUnder nodes b u s → IsPadded nodes a b r s x
-pad_to nodes c a b r s x zero u e lr ls f g = record { bits = u; long = omega arith; first = f; second = g }
-pad_to nodes c a b r s x (suc d) u e lr ls f g =
-    pad_to nodes c a b r s x d (u ++ false ∷ []) (let w = length_push u false in omega arith) lr ls (pad_one nodes c a u r f (omega arith)) (pad_one nodes c b u s g (omega arith))
-
 -- What a pair becomes is under one prefix.
 pub under_both_child : (nodes : List Decision) → IsCanonical nodes → (a b r s x : ℕ) (v : Bool) → IsUnderBoth nodes a b r s → 2 ≤ r → 2 ≤ s → x ≡ level_of_pair nodes r s → IsUnderBoth nodes a b (cofactor nodes r x v) (cofactor nodes s x v)
 under_both_child nodes c a b r s x v u i j e =
     let fb = u.first.below i in
     let sb = u.second.below j in
-    let p = pad_to nodes c a b r s x (x - length u.bits) u.bits (omega arith) (omega arith) (omega arith) u.first u.second in
+    let n = x - length u.bits in
+    let w = padded u.bits n in
+    let long : length w ≡ x = let l = length-padded u.bits n in omega arith in
     record {
-      bits = p.bits ++ v ∷ [];
-      first = subst (λ z. IsUnder nodes a (p.bits ++ v ∷ []) (cofactor nodes r z v)) p.long (under_cofactor nodes c a p.bits v r p.first i);
-      second = subst (λ z. IsUnder nodes b (p.bits ++ v ∷ []) (cofactor nodes s z v)) p.long (under_cofactor nodes c b p.bits v s p.second j);
+      bits = w ++ v ∷ [];
+      first = subst (λ z. IsUnder nodes a (w ++ v ∷ []) (cofactor nodes r z v)) long (under_cofactor nodes c a w v r (pad_to nodes c a r n u.bits (omega arith) u.first) i);
+      second = subst (λ z. IsUnder nodes b (w ++ v ∷ []) (cofactor nodes s z v)) long (under_cofactor nodes c b w v s (pad_to nodes c b s n u.bits (omega arith) u.second) j);
     }
 
 -- It decides below the pair's level.

@@ -14,7 +14,7 @@ use Rattle.blic_graph.specs.Pairs.{IsGraph, IsInner, IsListed, IsPairOf, IsSide,
 use Rattle.blic_graph.specs.Queue.{IsWaiting, Queue}
 use Rattle.blic_graph.specs.Listing.{AddsPair, Found, IsBegun, IsGoing, IsListing, IsSideSoFar, Waits, first_at, second_at, side_of}
 use Rattle.blic_graph.proofs.Answering.{IsPending, passes_most}
-use Rattle.blic_graph.proofs.Closed.{IsClosed, closed_has_all, pair_of_under, under_both_none}
+use Rattle.blic_graph.proofs.Closed.{HasRootAndChildren, closed_has_all, pair_of_under, under_both_none}
 use Rattle.blic_graph.proofs.Listings.{grown_of, listing_add, new_pair_of}
 
 abbrev empty : ℕ → ℕ → ℕ → Queue → Found
@@ -64,9 +64,6 @@ full_root nodes a b most level l q i j e f =
       missing = λ k m x. absurd (let r = x.in_range in omega arith);
       full = omega (arith, ap length q.pairs, q.most_is);
     })
-
-pub missing_root : (a b most level : ℕ) (l : Found) → IsBegun l a b most level → (k : ℕ) → l.start ≤ k → StandsAt l.pairs k a b → ⊥
-missing_root a b most level l q k m x = let r = x.in_range in omega (arith, ap length q.pairs)
 
 pub operands_root : (nodes : List Decision) (a b most level : ℕ) (l new : Found) → IsBegun l a b most level → AddsPair nodes l new a b → (new.first ≡ a) × (new.second ≡ b) × (new.most ≡ most)
 operands_root nodes a b most level l new q x = (ap (λ (z : Found). z.first) x.added ∙ q.first_is, ap (λ (z : Found). z.second) x.added ∙ q.second_is, ap (λ (z : Found). z.most) x.added ∙ q.most_is)
@@ -121,7 +118,7 @@ graph_at_end nodes c l i j g none = record {
         (subst (λ z. ChildListed nodes l.pairs v p.first p.second z) level
         (λ m n. side_listed l.pairs (side_of p v) (first_at nodes p v) (second_at nodes p v) (side k v h.in_range) m n)))
 
-    closed : IsClosed nodes l.first l.second (Has l.pairs)
+    closed : HasRootAndChildren nodes l.first l.second (Has l.pairs)
     closed = record {
       root = λ m n. (0, g.root);
       child = λ r s x v has e m n. child r s x v has.0 has.1 e m n;

@@ -1,7 +1,7 @@
 pub mod Answering
-pub mod Candidates
 pub mod Closed
 pub mod Errors
+pub mod Finding
 pub mod Graphs
 pub mod Kept
 pub mod Keys

@@ -13,7 +13,7 @@ use Rattle.std.proofs.lemmas.List.Sorted.{All-permutation, Contains-permutation}
 use Rattle.std.proofs.lemmas.Grind.{get_or-set_at}
 use Rattle.std.proofs.Math.Seq.{get_or-append_seam}
 use Rattle.blic_graph.specs.declared.waiting.Request.{Request}
-use Rattle.blic_graph.specs.Queue.{Asks, IsIn, IsNoted, IsQueue, IsWaiting, Queue, Takes, WaitsAlike, bucket_at, request_at, turns_left}
+use Rattle.blic_graph.specs.Queue.{Asks, IsIn, IsNoted, IsQueue, IsWaiting, Queue, Takes, WaitsAlike, bucket_at, request_at}
 
 abbrev none : Request
 none = record { first = 0; second = 0; place = 0 }
@@ -45,9 +45,6 @@ in_either b r q i =
       | inl m ↦ inl (record { place = i.place; in_range = m; is = sym (get_or_append_left b (r ∷ []) none i.place m) ∙ i.is })
       | inr m ↦ (let e : i.place ≡ length b = omega arith in inr (sym i.is ∙ (ap (request_at (b ++ r ∷ [])) e ∙ get_or-append_seam b r [] none)))
     ]
-
-none_in : (q : Request) → IsIn [] q → ⊥
-none_in q i = let h = i.in_range in omega arith
 
 -- A request more, for a level that is still to come.
 abbrev asked : Queue → ℕ → Request → Buckets → List ℕ → Queue
@@ -291,48 +288,6 @@ waiting-go_on levels rest old y left b w none range p below f e x r = (forth, ba
         | inr l ↦ (let apart : x ≢ z = n in IsWaiting.later (omega arith) (subst (λ v. IsIn v r) (sym (bucket-other old.later z x b n)) i))
       ]
     ]
-
--- A number that falls does not rise where the queue goes on.
-pub falls-go_on : (levels rest : List ℕ) (old : Queue) (y : ℕ) (left : List Request) (later : Buckets) → IsQueue levels old.later old.level → length old.left ≡ 0 → y < 2 ^ 32 → IsPermutation levels (y ∷ rest)
-    → left ≡ bucket_at old.later (2 ^ 32 - 1 - y) → length left < 2 ^ 64 → turns_left (record { level = 2 ^ 32 - 1 - y; left = left; later = later; levels = rest }) ≤ turns_left old
-falls-go_on levels rest old y left later w none range p f small =
-    let t = taken_out levels rest old.later old.level y w range p in
-    let n = t.no_sooner in
-    elim (cases_lt old.level (2 ^ 32 - 1 - y)) [
-      | inl m ↦ omega arith
-      | inr m ↦ (let c = w.come (2 ^ 32 - 1 - y) m in omega (arith, ap length f, ap length c))
-    ]
-
--- Where nothing is noted, and nothing is left, nothing waits.
-pub none_noted : (levels : List ℕ) (later : Buckets) (level : ℕ) → IsQueue levels later level → length levels ≡ 0 → (x : ℕ) → bucket_at later x ≡ []
-none_noted levels later level w e x = none_of (bucket_at later x) (λ h. let c = w.listed x h in let l = c.1 in omega arith)
-  where
-    none_of : (b : List Request) → (0 < length b → ⊥) → b ≡ []
-    none_of [] n = refl
-    none_of (r ∷ b) n = absurd (n (omega arith))
-
-pub none_waits : (q : Queue) → length q.left ≡ 0 → ((x : ℕ) → bucket_at q.later x ≡ []) → (x : ℕ) (r : Request) → IsWaiting q x r → ⊥
-none_waits q e n x r (IsWaiting.here s i) = let h = i.in_range in omega arith
-none_waits q e n x r (IsWaiting.later m i) = let h = in_some (bucket_at q.later x) r i in omega (arith, ap length (n x))
-
-pub queue-empty : (levels : List ℕ) (later : Buckets) (level : ℕ) → IsHeap nat_cmp levels → length levels ≡ 0 → length later ≤ 2 ^ 32 → ((x : ℕ) → bucket_at later x ≡ []) → IsQueue levels later level
-queue-empty levels later level heap e few none = record {
-  ordered = heap;
-  noted = λ k d h. absurd (omega arith);
-  listed = λ x h. absurd (omega (arith, ap length (none x)));
-  come = λ x h. none x;
-  few = few;
-}
-
--- A bucket more, without requests.
-pub bucket-more : (later longer : Buckets) (b : List Request) → longer ≡ later ++ b ∷ [] → b ≡ [] → (x : ℕ) → bucket_at longer x ≡ bucket_at later x
-bucket-more later longer b e n x = ap (λ z. bucket_at z x) e ∙ elim (cases_lt x (length later)) [
-  | inl m ↦ get_or_append_left later (b ∷ []) [] x m
-  | inr m ↦ elim (cases_eq x (length later)) [
-    | inl q ↦ ap (bucket_at (later ++ b ∷ [])) q ∙ (get_or-append_seam later b [] [] ∙ (n ∙ sym (get_or_past later x [] m)))
-    | inr ne ↦ (let apart : x ≢ length later = ne in let len = length_push later b in get_or_past (later ++ b ∷ []) x [] (omega arith) ∙ sym (get_or_past later x [] m))
-  ]
-]
 
 -- A request is taken from those that are left.
 pub takes : (old mid new : Queue) (r : Request) → WaitsAlike old mid → old.level ≤ mid.level → new.level ≡ mid.level → new.later ≡ mid.later → mid.left ≡ new.left ++ r ∷ [] → Takes old new r

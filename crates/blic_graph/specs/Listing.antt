@@ -1,4 +1,4 @@
--- The listing of pairs as it goes on, level by level: the pairs that were found, and the sides that wait for their level.
+-- Private: the listing of pairs as it goes on, level by level: the pairs that were found, and the sides that wait for their level.
 use Rattle.std.specs.Prelude.{ℕ, ◌+◌, ◌*◌, ◌%◌, ◌^◌, ◌<◌, ◌≤◌, ◌≡◌, ◌≢◌, ◌⊎◌, Bool, false, true, cond, min, List, [], ◌∷◌, ◌++◌, length, map, drop}
 use Rattle.blic_store.specs.declared.decision.Decision.{Decision}
 use Rattle.blic_store.specs.Diagram.{cofactor}

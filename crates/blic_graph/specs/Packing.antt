@@ -1,4 +1,4 @@
--- Pairs in twenty bytes: a side is the number of a pair, or by its top bits which of two functions is constant, and the other one.
+-- Private: pairs in twenty bytes: a side is the number of a pair, or by its top bits which of two functions is constant, and the other one.
 use Rattle.std.specs.Prelude.{ℕ, ◌-◌, ◌<◌, cond, min, List, slice_index_or, nat_lt}
 use Rattle.blic_graph.specs.declared.pair.Pair.{Pair}
 use Rattle.blic_graph.specs.declared.pair.Side.{Side}

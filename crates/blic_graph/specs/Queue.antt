@@ -1,4 +1,4 @@
--- Requests that wait for their level: those left at the level that has come, and of each later level a bucket.
+-- Private: requests that wait for their level: those left at the level that has come, and of each later level a bucket.
 use Rattle.std.specs.Prelude.{ℕ, ◌+◌, ◌*◌, ◌-◌, ◌/◌, ◌%◌, ◌^◌, ◌<◌, ◌≤◌, ◌≡◌, ◌⊎◌, ◌==◌, Bool, List, [], length, slice_index_or}
 use Rattle.std.specs.List.{All, Contains}
 use Rattle.std.specs.BinaryHeap.{IsHeap}

@@ -1,4 +1,4 @@
--- How far a circuit is solved, for the steps of solving it.
+-- Private: how far a circuit is solved, for the steps of solving it.
 use Rattle.std.specs.Prelude.{ℕ, ◌-◌, ◌<◌, ◌≤◌, ◌≡◌, ◌==◌, ◌&&◌, Bool, List, Option, length, nat_lt, slice_index_or, sum_by}
 use Rattle.blic_model.specs.declared.node.Node.{Node}
 use Rattle.blic_model.specs.Circuit.{below}

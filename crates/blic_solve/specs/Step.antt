@@ -1,4 +1,4 @@
--- What one node adds to a plan: the ref of its function, made of those of its children, and the pairs of its operands.
+-- Private: what one node adds to a plan: the ref of its function, made of those of its children, and the pairs of its operands.
 use Rattle.std.specs.Prelude.{ℕ, ◌≤◌, ◌≡◌, List, Option, None, IsSomeAnd, slice_index_or}
 use Rattle.blic_model.specs.declared.node.Node.{Node}
 use Rattle.blic_model.specs.declared.node.Node.TheVariants.{Const, Var, Not, Fix, And, Or}

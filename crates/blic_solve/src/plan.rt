@@ -196,9 +196,10 @@ impl Plan {
     }
 
     // Adds what the next node adds.
-    fn push(&mut self, step: Step) -> Result<(), NoMem>
+    fn push(&mut self, mut step: Step) -> Result<(), NoMem>
         ensures { OnOk result (self.new ≡ record { store = self.old.store; roots = self.old.roots ++ step.root ∷ []; graphs = self.old.graphs ++ step.graph ∷ [] }) }
     {
+        step.shrink();
         if self.roots.reserve(1).is_err() || self.graphs.reserve(1).is_err() {
             return Err(NoMem);
         }

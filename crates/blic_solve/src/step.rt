@@ -8,7 +8,7 @@ ghost use Rattle.blic_apply.specs.Operations.{combined};
 ghost use Rattle.blic_solve.specs.Plan.{pair_count};
 ghost use Rattle.blic_solve.specs.Step.{IsStep, IsStepOf, PassesNodes, PassesNodesOf, PassesPairs};
 
-use blic_apply::{Op, combine, fix, negate};
+use blic_apply::{Op, Rewriter, combine};
 use blic_basic::NoMem;
 use blic_graph::{Graph, GraphError, Lister};
 use blic_model::Node;
@@ -31,13 +31,18 @@ pub enum StepError {
 pub struct Tools {
     alloc: Global,
     lister: Lister,
+    rewriter: Rewriter,
 }
 
 impl Tools {
     /// Tools.
     pub fn new(alloc: Global) -> Result<Tools, NoMem> {
         match Lister::new(alloc) {
-            Ok(lister) => Ok(Tools { alloc, lister }),
+            Ok(lister) => Ok(Tools {
+                alloc,
+                lister,
+                rewriter: Rewriter::new(alloc),
+            }),
             Err(_) => Err(NoMem),
         }
     }
@@ -58,6 +63,15 @@ pub struct Step {
 }
 
 impl Step {
+    /// Gives up memory that its graph has over.
+    pub fn shrink(&mut self)
+        ensures { self.new ≡ self.old }
+    {
+        if let Some(graph) = &mut self.graph {
+            graph.shrink();
+        }
+    }
+
     /// How many pairs it adds.
     pub fn pairs(&self) -> u32
         ensures { result ≡ pair_count self.now.graph }
@@ -95,9 +109,9 @@ pub fn solve_node(
     match node {
         Node::Const(bit) => Ok(constant(bit)),
         Node::Var(level) => single(variable(store, level)),
-        Node::Not(child) => single(negate(tools.alloc, store, roots[child as usize])),
+        Node::Not(child) => single(tools.rewriter.negate(store, roots[child as usize])),
         Node::Fix { level, bit, child } => {
-            single(fix(tools.alloc, store, roots[child as usize], level, bit))
+            single(tools.rewriter.fix(store, roots[child as usize], level, bit))
         }
         Node::And(a, b) => binary(
             tools,

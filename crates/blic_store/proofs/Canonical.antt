@@ -1,5 +1,5 @@
 -- In a canonical list equal functions have equal refs.
-use Rattle.std.proofs.Common.{arith, ℕ, zero, suc, ◌+◌, ◌^◌, ◌<◌, ◌≤◌, ◌≡◌, refl, sym, ◌∙◌, ap, ◌⊎◌, inl, inr, List, [], ◌∷◌, ◌++◌, length, take, drop, Bool, false, true, cond, eqb, append_assoc}
+use Rattle.std.proofs.Common.{arith, ℕ, zero, suc, ◌+◌, ◌<◌, ◌≤◌, ◌≡◌, refl, sym, ◌∙◌, ap, ◌⊎◌, inl, inr, List, [], ◌∷◌, ◌++◌, length, take, drop, Bool, false, true, cond, eqb, append_assoc}
 use Rattle.std.proofs.lemmas.Bool.{cases_lt}
 use Rattle.std.proofs.lemmas.List.{take-append-drop, length-take-le, length_push}
 use Rattle.std.proofs.Math.Seq.{drop-cons}
@@ -45,12 +45,6 @@ function-node nodes k h o =
     ∙ (function-append (xs ++ e ∷ []) (drop (suc k) nodes) (suc (suc k)) (omega arith)
     ∙ (function-last xs e (suc (suc k)) (omega arith)
     ∙ ap₂ (choice e.level) (part e.low (omega arith)) (part e.high (omega arith))))
-
--- No level is below the constants.
-level_of-le : (nodes : List Decision) → IsCanonical nodes → (r : ℕ) → r < length nodes + 2 → level_of nodes r ≤ 2 ^ 32
-level_of-le nodes c zero h = omega (arith, level_of-const nodes 0 (omega arith))
-level_of-le nodes c (suc zero) h = omega (arith, level_of-const nodes 1 (omega arith))
-level_of-le nodes c (suc (suc k)) h = let w = (c.placed k (omega arith)).in_range in omega (arith, level_of-suc nodes k)
 
 -- A function depends on its level and those below it alone.
 depends-upto : (nodes : List Decision) → IsCanonical nodes → (n r : ℕ) → r < n → r < length nodes + 2 → (p q : ℕ → Bool) → ((x : ℕ) → level_of nodes r ≤ x → p x ≡ q x) → function nodes r p ≡ function nodes r q

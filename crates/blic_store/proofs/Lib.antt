@@ -2,11 +2,14 @@ pub mod Candidates
 pub mod Canonical
 pub mod Chains
 pub mod Cofactors
+pub mod Finding
 pub mod Functions
 pub mod Levels
 pub mod Links
 pub mod Made
+pub mod Numbers
 pub mod Parts
+pub mod Paths
 pub mod Pigeonhole
 pub mod Room
 pub mod Under

@@ -20,6 +20,15 @@ function-kept f old new d r h = ap (λ z. function z r) d.extends.1 ∙ function
 pub no_shorter : (f : Function) (old new : List Decision) → Adds f old new → length old ≤ length new
 no_shorter f old new d = omega (arith, ap length d.extends.1, length-append old d.extends.0)
 
+-- And decisions.
+pub decision_kept : (f : Function) (now new : List Decision) → Adds f now new → (k : ℕ) → k < length now → decision_at new k ≡ decision_at now k
+decision_kept f now new d k l = ap (λ z. decision_at z k) d.extends.1 ∙ get_or_append_left now d.extends.0 (record { level = 0; low = 0; high = 0 }) k l
+
+pub level_kept : (f : Function) (now new : List Decision) → Adds f now new → (r : ℕ) → IsRef now r → level_of new r ≡ level_of now r
+level_kept f now new d zero h = level_of-const new 0 (omega arith) ∙ sym (level_of-const now 0 (omega arith))
+level_kept f now new d (suc zero) h = level_of-const new 1 (omega arith) ∙ sym (level_of-const now 1 (omega arith))
+level_kept f now new d (suc (suc k)) h = level_of-suc new k ∙ (ap (λ z. z.level) (decision_kept f now new d k (omega arith)) ∙ sym (level_of-suc now k))
+
 after_at : (u w : List Bool) (p : ℕ → Bool) (x : ℕ) → after u (after w p) x ≡ after (u ++ drop (length u) w) p x
 after_at u w p x = elim (cases_lt x (length u)) [
   | inl l ↦ get_or_default u x (after w p x) (p x) l ∙ sym (get_or_append_left u (drop (length u) w) (p x) x l)

@@ -1,5 +1,5 @@
 -- A ref with some topmost levels fixed.
-use Rattle.std.proofs.Common.{arith, ℕ, zero, suc, ◌<◌, ◌≤◌, ◌≡◌, ◌≢◌, refl, sym, ◌∙◌, ap, subst, inl, inr, List, [], ◌∷◌, ◌++◌, length, get_or, Bool, false, append_assoc, append-nil}
+use Rattle.std.proofs.Common.{arith, ℕ, zero, suc, ◌+◌, ◌<◌, ◌≤◌, ◌≡◌, ◌≢◌, refl, sym, ◌∙◌, ap, subst, inl, inr, List, [], ◌∷◌, ◌++◌, length, get_or, Bool, false, append_assoc, append-nil}
 use Rattle.std.proofs.lemmas.Bool.{cases_eq, cases_lt}
 use Rattle.std.proofs.lemmas.List.{get_or_append_left, get_or_past, get_or_default, length_push}
 use Rattle.std.proofs.Math.Seq.{get_or-append_seam}
@@ -50,12 +50,27 @@ under_cofactor nodes c a u v r x i =
     }
 
 -- A prefix may be longer, up to the ref's level.
-pub pad_one : (nodes : List Decision) → IsCanonical nodes → (a : ℕ) (u : List Bool) (r : ℕ) → IsUnder nodes a u r → length u < level_of nodes r → IsUnder nodes a (u ++ false ∷ []) r
+pad_one : (nodes : List Decision) → IsCanonical nodes → (a : ℕ) (u : List Bool) (r : ℕ) → IsUnder nodes a u r → length u < level_of nodes r → IsUnder nodes a (u ++ false ∷ []) r
 pad_one nodes c a u r x l = record {
   held = x.held;
   value = λ p. sym (blind nodes c r x.held p (length u) false l) ∙ (x.value (with_bit p (length u) false) ∙ ap (function nodes a) (fun_ext (after_step u p false)));
   below = λ i. let w = length_push u false in omega arith;
 }
+
+-- a prefix with n bits more
+pub padded : List Bool → ℕ → List Bool
+padded u zero = u
+padded u (suc n) = padded (u ++ false ∷ []) n
+
+pub length-padded : (u : List Bool) (n : ℕ) → length (padded u n) ≡ length u + n
+unfolding padded
+length-padded u zero = omega arith
+length-padded u (suc n) = omega (arith, length-padded (u ++ false ∷ []) n, length_push u false)
+
+pub pad_to : (nodes : List Decision) → IsCanonical nodes → (a r n : ℕ) (u : List Bool) → length u + n ≤ level_of nodes r → IsUnder nodes a u r → IsUnder nodes a (padded u n) r
+unfolding padded
+pad_to nodes c a r zero u l x = x
+pad_to nodes c a r (suc n) u l x = pad_to nodes c a r n (u ++ false ∷ []) (let w = length_push u false in omega arith) (pad_one nodes c a u r x (omega arith))
 
 -- A ref under no prefix.
 pub under_none : (nodes : List Decision) (a : ℕ) → IsRef nodes a → IsUnder nodes a [] a

@@ -1,5 +1,5 @@
 -- Diagrams: a list of decisions, each after those that it leads to, and the functions that refs to them stand for.
-use Rattle.std.specs.Prelude.{ℕ, zero, suc, ◌+◌, ◌-◌, ◌^◌, ◌<◌, Bool, false, true, cond, ◌==◌, List, [], ◌∷◌, ◌++◌, fold, length, slice_index_or}
+use Rattle.std.specs.Prelude.{ℕ, zero, suc, ◌+◌, ◌-◌, ◌^◌, ◌<◌, ◌≡◌, ◌⊎◌, Bool, false, true, cond, ◌==◌, List, [], ◌∷◌, ◌++◌, fold, length, slice_index_or}
 use Rattle.blic_store.specs.declared.decision.Decision.{Decision}
 use Rattle.blic_store.specs.Function.{Function, choice}
 
@@ -36,6 +36,10 @@ low_of nodes r = (decision_at nodes (r - 2)).low
 -- where it leads to, where its level's bit is 1
 abbrev pub high_of : List Decision → ℕ → ℕ
 high_of nodes r = (decision_at nodes (r - 2)).high
+
+-- one of a ref's two sides
+abbrev pub IsSideOf : List Decision → ℕ → ℕ → Type 0
+IsSideOf nodes at r = (r ≡ low_of nodes at) ⊎ (r ≡ high_of nodes at)
 
 -- the ref with the level's bit fixed, where the level is the ref's own; else the ref
 abbrev pub cofactor : List Decision → ℕ → ℕ → Bool → ℕ

@@ -1,4 +1,4 @@
--- What a store keeps: canonical decisions within the limit, each entered in the unique table with its hash.
+-- Private: what a store keeps: canonical decisions within the limit, each entered in the unique table with its hash.
 use Rattle.std.specs.Prelude.{ℕ, ◌+◌, ◌*◌, ◌-◌, ◌/◌, ◌%◌, ◌^◌, ◌≤◌, ◌≡◌, List, length, map, max, min}
 use Rattle.blic_store.specs.declared.decision.Decision.{Decision}
 use Rattle.blic_store.specs.Canonical.{IsCanonical}

@@ -13,7 +13,7 @@ loop-k-init g c = record {
 }
 
 pub line_of_decision-requires-clause-k : goal.line_of_decision-requires-clause-k
-line_of_decision-requires-clause-k g c = c.requires.reached.reached.held c.loop-k.k-index c.loop-k-test.true
+line_of_decision-requires-clause-k g c = c.requires.reached.reached.closed.held c.loop-k.k-index c.loop-k-test.true
 
 pub line_of_decision-requires-clause-low : goal.line_of_decision-requires-clause-low
 line_of_decision-requires-clause-low g c =
@@ -27,7 +27,7 @@ line_of_decision-requires-clause-high g c =
 
 pub bounds-lines-k : goal.bounds-lines-k
 bounds-lines-k g c =
-    let held = c.requires.reached.reached.held c.loop-k.k-index c.loop-k-test.true in
+    let held = c.requires.reached.reached.closed.held c.loop-k.k-index c.loop-k-test.true in
     let long = c.loop-k.invariant.long in
     let room = c.requires.room in
     omega arith
@@ -35,7 +35,7 @@ bounds-lines-k g c =
 pub loop-k-preserved : goal.loop-k-preserved
 loop-k-preserved g c =
     let k = get_or c.args.reached.now c.loop-k.k-index 0 in
-    let held = c.requires.reached.reached.held c.loop-k.k-index c.loop-k-test.true in
+    let held = c.requires.reached.reached.closed.held c.loop-k.k-index c.loop-k-test.true in
     let long = c.loop-k.invariant.long in
     let room = c.requires.room in
     let most = c.loop-k.invariant.at_most in

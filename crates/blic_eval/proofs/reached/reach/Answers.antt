@@ -1,5 +1,6 @@
 use Rattle.std.proofs.Common.{subst, sym}
-use Rattle.blic_eval.specs.Walks.{AddsParts, IsClosed}
+use Rattle.blic_eval.specs.Reached.{IsClosed}
+use Rattle.blic_eval.specs.Walks.{AddsParts}
 use Rattle.blic_eval.proofs.Walking.{closed_none, reached_both}
 use Rattle.blic_eval.proofs.reached.reach.Goals as goal
 

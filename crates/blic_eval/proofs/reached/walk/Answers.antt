@@ -1,23 +1,29 @@
-use Rattle.std.proofs.Common.{arith, ◌≡◌, ◌+◌, ◌++◌, ◌∷◌, [], refl, sym, ◌∙◌, ap, subst, length}
+use Rattle.std.proofs.Common.{arith, ◌≡◌, ◌+◌, ◌-◌, ◌++◌, ◌∷◌, [], refl, sym, ◌∙◌, ap, subst, length}
 use Rattle.std.proofs.lemmas.List.{length_push, nil_from_length}
-use Rattle.blic_apply.proofs.Table.{smaller}
+use Rattle.blic_store.specs.Numbers.{Lacks}
+use Rattle.blic_store.proofs.Paths.{side_before, smaller}
 use Rattle.blic_eval.specs.Reached.{IsAmong}
-use Rattle.blic_eval.specs.Walks.{AddsParts, IsClosed}
-use Rattle.blic_eval.proofs.Walking.{IsWalk, at_hand, closed_fewer, side_before, walk_adds, walk_down, walk_ends, walk_first, walk_up}
+use Rattle.blic_eval.specs.Reached.{IsClosed}
+use Rattle.blic_eval.specs.Walks.{AddsParts}
+use Rattle.blic_eval.proofs.Numbering.{with_decision}
+use Rattle.blic_eval.proofs.Walking.{IsWalk, closed_fewer, in_hand, walk_adds, walk_down, walk_ends, walk_first, walk_up}
 use Rattle.blic_eval.proofs.reached.walk.Goals as goal
 
 pub up-init : goal.up-init
 up-init c = record {
   walk = walk_first c.args.store.now.nodes c.canonical_law.ensures.canonical c.args.r c.in-Some.at c.args.set.now.numbers c.clear.new.self.items c.clear.ensures.items c.requires.held
-      c.requires.closed c.in-Some.ensures.some.0 c.in-Some.ensures.some.1;
+      c.requires.closed c.in-Some.ensures.some.0 c.in-Some.ensures.some.1 c.in-Some.ensures.some.2;
   room = refl;
   capacity = c.clear.ensures.capacity;
 }
 
-pub missing_side-requires-clause-k : goal.missing_side-requires-clause-k
-missing_side-requires-clause-k c =
-    let short = (at_hand c.args.store.now.nodes c.args.r c.args.set.now.numbers c.up.set.numbers c.up.path.items c.up.at c.up.invariant.walk).short in
-    omega arith
+pub missing_side-requires-clause-held : goal.missing_side-requires-clause-held
+missing_side-requires-clause-held c =
+    (in_hand c.args.store.now.nodes c.args.r c.args.set.now.numbers c.up.set.numbers c.up.path.items c.up.at c.requires.held c.up.invariant.walk).led.1.held
+
+pub missing_side-requires-clause-inner : goal.missing_side-requires-clause-inner
+missing_side-requires-clause-inner c =
+    (in_hand c.args.store.now.nodes c.args.r c.args.set.now.numbers c.up.set.numbers c.up.path.items c.up.at c.requires.held c.up.invariant.walk).inner
 
 pub missing_side-requires-clause-room : goal.missing_side-requires-clause-room
 missing_side-requires-clause-room c =
@@ -27,7 +33,9 @@ missing_side-requires-clause-room c =
 
 pub push_reserved-requires : goal.push_reserved-requires
 push_reserved-requires c =
-    let short = (at_hand c.args.store.now.nodes c.args.r c.args.set.now.numbers c.up.set.numbers c.up.path.items c.up.at c.up.invariant.walk).short in
+    let here = (in_hand c.args.store.now.nodes c.args.r c.args.set.now.numbers c.up.set.numbers c.up.path.items c.up.at c.requires.held c.up.invariant.walk) in
+    let short = here.short in
+    let inner = here.inner in
     let long = c.up.path.ok in
     let capacity = c.up.invariant.capacity in
     let enough = c.requires.path in
@@ -35,8 +43,8 @@ push_reserved-requires c =
 
 pub up-smaller-in-Some-missing_side : goal.up-smaller-in-Some-missing_side
 up-smaller-in-Some-missing_side c =
-    let short = (at_hand c.args.store.now.nodes c.args.r c.args.set.now.numbers c.up.set.numbers c.up.path.items c.up.at c.up.invariant.walk).short in
-    let before = side_before c.args.store.now.nodes c.canonical_law.ensures.canonical c.up.at c.in-Some-missing_side.side (omega arith) c.in-Some-missing_side.ensures.some.side in
+    let here = (in_hand c.args.store.now.nodes c.args.r c.args.set.now.numbers c.up.set.numbers c.up.path.items c.up.at c.requires.held c.up.invariant.walk) in
+    let before = side_before c.args.store.now.nodes c.canonical_law.ensures.canonical c.up.at c.in-Some-missing_side.side here.led.1.held here.inner c.in-Some-missing_side.ensures.some.side in
     omega arith
 
 pub up-preserved-in-Some-missing_side : goal.up-preserved-in-Some-missing_side
@@ -49,29 +57,32 @@ up-preserved-in-Some-missing_side c = record {
 
 pub add-requires-clause-room : goal.add-requires-clause-room
 add-requires-clause-room c =
-    let short = (at_hand c.args.store.now.nodes c.args.r c.args.set.now.numbers c.up.set.numbers c.up.path.items c.up.at c.up.invariant.walk).short in
+    let here = (in_hand c.args.store.now.nodes c.args.r c.args.set.now.numbers c.up.set.numbers c.up.path.items c.up.at c.requires.held c.up.invariant.walk) in
+    let short = here.short in
+    let inner = here.inner in
     let room = c.up.invariant.room in
     let enough = c.requires.room in
     omega arith
 
 pub add-requires-clause-new : goal.add-requires-clause-new
 add-requires-clause-new c =
-    (at_hand c.args.store.now.nodes c.args.r c.args.set.now.numbers c.up.set.numbers c.up.path.items c.up.at c.up.invariant.walk).lacks
+    subst (λ z. Lacks c.up.set.numbers (z - 2)) (sym c.number.ensures)
+    (in_hand c.args.store.now.nodes c.args.r c.args.set.now.numbers c.up.set.numbers c.up.path.items c.up.at c.requires.held c.up.invariant.walk).lacks
 
 pub returns-in_default-pop-clause-closed : goal.returns-in_default-pop-clause-closed
 returns-in_default-pop-clause-closed c =
-    subst (λ s. IsClosed c.args.store.now.nodes s.numbers) (sym c.add.ensures)
+    subst (λ s. IsClosed c.args.store.now.nodes s.numbers) (sym (with_decision c.up.set c.add.new.self c.number.result c.up.at c.number.ensures c.add.ensures))
     (walk_adds c.args.store.now.nodes c.args.r c.args.set.now.numbers c.up.set.numbers c.up.path.items c.up.at c.up.invariant.walk c.in-None.ensures.none).closed
 
 pub returns-in_default-pop-clause-adds : goal.returns-in_default-pop-clause-adds
 returns-in_default-pop-clause-adds c =
-    subst (λ s. AddsParts c.args.store.now.nodes c.args.r c.args.set.now.numbers s.numbers) (sym c.add.ensures)
+    subst (λ s. AddsParts c.args.store.now.nodes c.args.r c.args.set.now.numbers s.numbers) (sym (with_decision c.up.set c.add.new.self c.number.result c.up.at c.number.ensures c.add.ensures))
     (walk_adds c.args.store.now.nodes c.args.r c.args.set.now.numbers c.up.set.numbers c.up.path.items c.up.at c.up.invariant.walk c.in-None.ensures.none).adds
 
 pub returns-in_default-pop-clause-reached : goal.returns-in_default-pop-clause-reached
 returns-in_default-pop-clause-reached c =
     let none : c.up.path.items ≡ [] = let ok = c.up.path.ok in let no = c.in_default-pop.ensures.cases.0 in nil_from_length c.up.path.items (omega arith) in
-    subst (λ s. IsAmong s.numbers (length s.numbers) c.args.r) (sym c.add.ensures)
+    subst (λ s. IsAmong s.numbers (length s.numbers) c.args.r) (sym (with_decision c.up.set c.add.new.self c.number.result c.up.at c.number.ensures c.add.ensures))
     (walk_ends c.args.store.now.nodes c.args.r c.args.set.now.numbers c.up.set.numbers c.up.path.items c.up.at none c.up.invariant.walk)
 
 pub returns-in_default-pop-clause-room : goal.returns-in_default-pop-clause-room
@@ -83,14 +94,15 @@ returns-in_default-pop-clause-path c = c.pop.ensures.capacity ∙ c.up.invariant
 pub up-smaller : goal.up-smaller
 up-smaller c =
     let nodes = c.args.store.now.nodes in
-    let here = at_hand nodes c.args.r c.args.set.now.numbers c.up.set.numbers c.up.path.items c.up.at c.up.invariant.walk in
+    let here = in_hand nodes c.args.r c.args.set.now.numbers c.up.set.numbers c.up.path.items c.up.at c.requires.held c.up.invariant.walk in
     let short = here.short in
+    let inner = here.inner in
     let waited : c.up.path.items ≡ c.pop.new.self.items ++ c.in-Some-pop.above ∷ [] = c.in-Some-pop.ensures.items in
     let next = walk_up nodes c.args.r c.args.set.now.numbers c.up.set.numbers c.up.path.items c.pop.new.self.items c.up.at c.in-Some-pop.above waited c.up.invariant.walk c.in-None.ensures.none in
-    let above = (at_hand nodes c.args.r c.args.set.now.numbers (c.up.set.numbers ++ c.up.at ∷ []) c.pop.new.self.items c.in-Some-pop.above next).short in
-    let fewer = closed_fewer nodes c.up.set.numbers c.up.at c.up.invariant.walk.closed here.lacks (omega arith) in
-    let longer : length c.add.new.self.numbers ≡ length c.up.set.numbers + 1 = ap (λ s. length s.numbers) c.add.ensures ∙ length_push c.up.set.numbers c.up.at in
-    smaller (length nodes) (length c.up.set.numbers) (length c.add.new.self.numbers) c.up.at c.in-Some-pop.above longer (omega arith) (omega arith)
+    let above = (in_hand nodes c.args.r c.args.set.now.numbers (c.up.set.numbers ++ (c.up.at - 2) ∷ []) c.pop.new.self.items c.in-Some-pop.above c.requires.held next).short in
+    let fewer = closed_fewer nodes c.up.set.numbers (c.up.at - 2) c.up.invariant.walk.closed here.lacks (omega arith) in
+    let longer : length c.add.new.self.numbers ≡ length c.up.set.numbers + 1 = ap (λ s. length s.numbers) (with_decision c.up.set c.add.new.self c.number.result c.up.at c.number.ensures c.add.ensures) ∙ length_push c.up.set.numbers (c.up.at - 2) in
+    smaller (length nodes + 1) (length c.up.set.numbers) (length c.add.new.self.numbers) c.up.at c.in-Some-pop.above longer (omega arith) (omega arith)
 
 pub up-preserved : goal.up-preserved
 up-preserved c =
@@ -98,7 +110,7 @@ up-preserved c =
     let waited : c.up.path.items ≡ c.pop.new.self.items ++ c.in-Some-pop.above ∷ [] = c.in-Some-pop.ensures.items in
     let next = walk_up nodes c.args.r c.args.set.now.numbers c.up.set.numbers c.up.path.items c.pop.new.self.items c.up.at c.in-Some-pop.above waited c.up.invariant.walk c.in-None.ensures.none in
     record {
-      walk = subst (λ s. IsWalk nodes c.args.r c.args.set.now.numbers s.numbers (c.pop.new.self.items ++ c.in-Some-pop.above ∷ [])) (sym c.add.ensures) next;
+      walk = subst (λ s. IsWalk nodes c.args.r c.args.set.now.numbers s.numbers (c.pop.new.self.items ++ c.in-Some-pop.above ∷ [])) (sym (with_decision c.up.set c.add.new.self c.number.result c.up.at c.number.ensures c.add.ensures)) next;
       room = ap (λ s. s.room) c.add.ensures ∙ c.up.invariant.room;
       capacity = c.pop.ensures.capacity ∙ c.up.invariant.capacity;
     }

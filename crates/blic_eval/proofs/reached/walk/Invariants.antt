@@ -11,4 +11,4 @@ invariant-up l = record {
 }
 
 abbrev pub decreases-up : goal.decreases-up
-decreases-up l = (length l.store.nodes + 1 - length l.set.numbers) * (length l.store.nodes + 1) + l.at
+decreases-up l = (length l.store.nodes + 1 + 1 - length l.set.numbers) * (length l.store.nodes + 1 + 1) + l.at

@@ -12,7 +12,7 @@ loop-k-init g c = record {
 }
 
 pub value_of_decision-requires-clause-k : goal.value_of_decision-requires-clause-k
-value_of_decision-requires-clause-k g c = c.requires.reached.reached.held c.loop-k.k-index c.loop-k-test.true
+value_of_decision-requires-clause-k g c = c.requires.reached.reached.closed.held c.loop-k.k-index c.loop-k-test.true
 
 pub value_of_decision-requires-clause-low : goal.value_of_decision-requires-clause-low
 value_of_decision-requires-clause-low g c =
@@ -26,7 +26,7 @@ value_of_decision-requires-clause-high g c =
 
 pub bounds-lines-k : goal.bounds-lines-k
 bounds-lines-k g c =
-    let held = c.requires.reached.reached.held c.loop-k.k-index c.loop-k-test.true in
+    let held = c.requires.reached.reached.closed.held c.loop-k.k-index c.loop-k-test.true in
     let long = c.loop-k.invariant.long in
     let room = c.requires.room in
     omega arith
@@ -34,7 +34,7 @@ bounds-lines-k g c =
 pub loop-k-preserved : goal.loop-k-preserved
 loop-k-preserved g c =
     let k = get_or c.args.reached.now c.loop-k.k-index 0 in
-    let held = c.requires.reached.reached.held c.loop-k.k-index c.loop-k-test.true in
+    let held = c.requires.reached.reached.closed.held c.loop-k.k-index c.loop-k-test.true in
     let long = c.loop-k.invariant.long in
     let room = c.requires.room in
     let count = c.loop-k.invariant.count in

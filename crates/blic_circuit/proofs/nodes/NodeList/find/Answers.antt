@@ -1,24 +1,29 @@
-use Rattle.std.proofs.Common.{arith, ◌≡◌, ap, sym, ◌∙◌, subst, false, get_or}
+use Rattle.std.proofs.Common.{arith, ◌≡◌, ap, sym, ◌∙◌, subst, false, get_or, length, map}
 use Rattle.std.specs.Prelude.{Some}
+use Rattle.std.proofs.lemmas.Bool.{false≢true}
 use Rattle.std.proofs.lemmas.List.{get_or_read}
 use Rattle.blic_model.specs.declared.node.Node.TheVariants.{Const}
 use Rattle.blic_model.specs.Circuit.{node_at}
 use Rattle.blic_model.specs.Building.{same_node}
 use Rattle.blic_model.specs.Shape.{all_differ}
-use Rattle.blic_circuit.proofs.Candidates.{IsCandidate, candidate_newest, candidate_older, no_candidate}
+use Rattle.blic_store.proofs.Candidates.{candidate_newest, candidate_older}
+use Rattle.blic_circuit.specs.Numbers.{hash_of}
+use Rattle.blic_circuit.proofs.Finding.{IsAt, IsCandidateOf, hash_at_place, hash_here, no_candidate, nodes_hashed}
 use Rattle.blic_circuit.proofs.Numbering.{number_found}
 use Rattle.blic_circuit.proofs.nodes.NodeList.find.Goals as goal
 
 pub loop-candidate-init : goal.loop-candidate-init
 loop-candidate-init c =
-    subst (λ z. IsCandidate z c.args.node c.newest-candidate.result) c.self.view_is
-    (candidate_newest c.self.inside.nodes.items c.self.inside.table c.args.node c.hash.result c.newest-candidate.result
-    c.self.invariant.entered c.hash.ensures c.newest-candidate.ensures.some c.newest-candidate.ensures.none)
+    let nodes = c.args.self.now in
+    let n = c.args.node in
+    candidate_newest (length nodes) (hash_at_place nodes) (IsAt nodes n) (hash_of n) c.self.inside.table c.hash.result c.newest-candidate.result
+    (nodes_hashed nodes c.self.inside.table (c.self.invariant.entered ∙ ap (map hash_of) c.self.view_is))
+    (hash_here nodes n) c.hash.ensures c.newest-candidate.ensures.some c.newest-candidate.ensures.none
 
 pub returns-then-is_same : goal.returns-then-is_same
 returns-then-is_same c =
     let nodes = c.args.self.now in
-    let here : IsCandidate nodes c.args.node (Some c.in-Some.k) = subst (IsCandidate nodes c.args.node) c.in-Some.is c.loop-candidate.invariant in
+    let here : IsCandidateOf nodes c.args.node (Some c.in-Some.k) = subst (IsCandidateOf nodes c.args.node) c.in-Some.is c.loop-candidate.invariant in
     let l = here.in_range in
     let read : c.index.result.now ≡ node_at nodes c.in-Some.k = get_or_read nodes c.in-Some.k c.index.result.now (omega arith) (subst (λ z. c.index.result.now ≡ get_or z c.in-Some.k c.index.result.now) c.self.view_is c.index.ensures) (Const false) in
     number_found nodes c.args.node c.in-Some.k (sym (ap all_differ c.self.view_is) ∙ c.self.invariant.distinct) (omega arith) (sym (ap (same_node c.args.node) read) ∙ (sym c.is_same.ensures ∙ c.if-is_same.true))
@@ -26,14 +31,17 @@ returns-then-is_same c =
 pub loop-candidate-preserved : goal.loop-candidate-preserved
 loop-candidate-preserved c =
     let inside = c.self.inside.nodes.items in
+    let nodes = c.args.self.now in
     let n = c.args.node in
-    let here : IsCandidate inside n (Some c.in-Some.k) = subst (λ z. IsCandidate z n (Some c.in-Some.k)) (sym c.self.view_is) (subst (IsCandidate c.args.self.now n) c.in-Some.is c.loop-candidate.invariant) in
+    let here : IsCandidateOf nodes n (Some c.in-Some.k) = subst (IsCandidateOf nodes n) c.in-Some.is c.loop-candidate.invariant in
     let l = here.in_range in
+    let long = ap length c.self.view_is in
     let read : c.index.result.now ≡ node_at inside c.in-Some.k = get_or_read inside c.in-Some.k c.index.result.now (omega arith) c.index.ensures (Const false) in
-    subst (λ z. IsCandidate z n c.older-candidate.result) c.self.view_is
-    (candidate_older inside c.self.inside.table n c.in-Some.k c.older-candidate.result c.self.invariant.entered here
-    (sym (ap (same_node n) read) ∙ (sym c.is_same.ensures ∙ c.if-is_same.false))
-    c.older-candidate.ensures.some c.older-candidate.ensures.none)
+    let other : same_node n (node_at nodes c.in-Some.k) ≡ false = sym (ap (same_node n) (read ∙ ap (λ z. node_at z c.in-Some.k) c.self.view_is)) ∙ (sym c.is_same.ensures ∙ c.if-is_same.false) in
+    candidate_older (length nodes) (hash_at_place nodes) (IsAt nodes n) (hash_of n) c.self.inside.table c.in-Some.k c.older-candidate.result
+    (nodes_hashed nodes c.self.inside.table (c.self.invariant.entered ∙ ap (map hash_of) c.self.view_is))
+    (hash_here nodes n) here (λ e. false≢true (sym other ∙ e))
+    c.older-candidate.ensures.some c.older-candidate.ensures.none
 
 pub returns : goal.returns
-returns c = no_candidate c.args.self.now c.args.node (subst (IsCandidate c.args.self.now c.args.node) c.in_default.is c.loop-candidate.invariant)
+returns c = no_candidate c.args.self.now c.args.node (subst (IsCandidateOf c.args.self.now c.args.node) c.in_default.is c.loop-candidate.invariant)

@@ -1,5 +1,6 @@
 use Rattle.std.proofs.Common.{arith, ◌≡◌, ◌<◌, ap, length, subst, sym, set}
-use Rattle.blic_eval.specs.Numbers.{HasPlaces, Lacks}
+use Rattle.blic_store.specs.Numbers.{Lacks}
+use Rattle.blic_eval.specs.Numbers.{HasPlaces}
 use Rattle.blic_eval.proofs.Numbering.{places_more, room_left}
 use Rattle.blic_eval.proofs.number_set.NumberSet.add.Goals as goal
 

@@ -1,20 +1,24 @@
-use Rattle.std.proofs.Common.{arith, ◌≡◌, ◌+◌, ap, sym, ◌∙◌, subst, drop, map}
+use Rattle.std.proofs.Common.{arith, ◌≡◌, ◌+◌, ap, sym, ◌∙◌, subst, drop, length, map}
 use Rattle.std.specs.Prelude.{Some}
 use Rattle.std.proofs.lemmas.List.{get_or-map, get_or_read, length-drop, length-map}
 use Rattle.blic_graph.specs.declared.pair.Pair.{Pair}
 use Rattle.blic_graph.specs.declared.pair.Side.TheVariants as Side
 use Rattle.blic_graph.specs.Pairs.{StandsAt, pair_at}
-use Rattle.blic_graph.specs.Listing.{Found}
+use Rattle.blic_graph.specs.Listing.{Found, hash_of, hash_of_pair}
 use Rattle.blic_graph.specs.Packing.{packed_at, unpacked}
-use Rattle.blic_graph.proofs.Candidates.{IsCandidate, candidate_newest, candidate_older, missing_at_end, pair-drop, unequal_numbers}
+use Rattle.blic_store.proofs.Candidates.{candidate_newest, candidate_older}
+use Rattle.blic_graph.proofs.Finding.{IsAt, IsCandidateOf, hash_at_place, hash_here, missing_at_end, pair-drop, pairs_hashed, unequal_numbers}
 use Rattle.blic_graph.proofs.pair_list.PairList.find.Goals.{else-eq-via-then-eq+else-eq-2, else-eq-via-else-eq}
 use Rattle.blic_graph.proofs.pair_list.PairList.find.Goals as goal
 
 pub loop-candidate-init : goal.loop-candidate-init
 loop-candidate-init c =
-    subst (λ (z : Found). IsCandidate (drop z.start z.pairs) c.args.first c.args.second c.newest-candidate.result) c.self.view_is
-    (candidate_newest (drop c.self.inside.start (map unpacked c.self.inside.pairs.items)) c.self.inside.table c.args.first c.args.second c.hash.result c.newest-candidate.result
-    c.self.invariant.entered c.hash.ensures c.newest-candidate.ensures.some c.newest-candidate.ensures.none)
+    let pairs = drop c.args.self.now.start c.args.self.now.pairs in
+    let r = c.args.first in
+    let s = c.args.second in
+    candidate_newest (length pairs) (hash_at_place pairs) (IsAt pairs r s) (hash_of r s) c.self.inside.table c.hash.result c.newest-candidate.result
+    (pairs_hashed pairs c.self.inside.table (c.self.invariant.entered ∙ ap (λ (z : Found). map hash_of_pair (drop z.start z.pairs)) c.self.view_is))
+    (hash_here pairs r s) c.hash.ensures c.newest-candidate.ensures.some c.newest-candidate.ensures.none
 
 pub loop-candidate-preserved : goal.loop-candidate-preserved
 loop-candidate-preserved c =
@@ -23,8 +27,10 @@ loop-candidate-preserved c =
     let start = c.self.inside.start in
     let r = c.args.first in
     let s = c.args.second in
-    let here : IsCandidate (drop start inside) r s (Some c.in-Some.k) =
-    subst (λ (z : Found). IsCandidate (drop z.start z.pairs) r s (Some c.in-Some.k)) (sym c.self.view_is) (subst (IsCandidate (drop c.args.self.now.start c.args.self.now.pairs) r s) c.in-Some.is c.loop-candidate.invariant) in
+    let pairs = drop c.args.self.now.start c.args.self.now.pairs in
+    let seen : drop start inside ≡ pairs = ap (λ (z : Found). drop z.start z.pairs) c.self.view_is in
+    let now : IsCandidateOf pairs r s (Some c.in-Some.k) = subst (IsCandidateOf pairs r s) c.in-Some.is c.loop-candidate.invariant in
+    let here : IsCandidateOf (drop start inside) r s (Some c.in-Some.k) = subst (λ z. IsCandidateOf z r s (Some c.in-Some.k)) (sym seen) now in
     let l = here.in_range in
     let len = length-drop start inside in
     let same_len = length-map items unpacked in
@@ -36,9 +42,10 @@ loop-candidate-preserved c =
       | else-eq-via-then-eq+else-eq-2 w ↦ unequal_numbers c.index-pair.result.now.second s (sym w.eq-then-eq.ensures ∙ w.if-eq-2.false) (ap (λ (z : Pair). z.second) same ∙ x.second)
       | else-eq-via-else-eq w ↦ unequal_numbers c.index-pair.result.now.first r (sym c.eq.ensures ∙ w.if-eq.false) (ap (λ (z : Pair). z.first) same ∙ x.first)
     ] in
-    subst (λ (z : Found). IsCandidate (drop z.start z.pairs) r s c.older-candidate.result) c.self.view_is
-    (candidate_older (drop start inside) c.self.inside.table r s c.in-Some.k c.older-candidate.result c.self.invariant.entered here other
-    c.older-candidate.ensures.some c.older-candidate.ensures.none)
+    candidate_older (length pairs) (hash_at_place pairs) (IsAt pairs r s) (hash_of r s) c.self.inside.table c.in-Some.k c.older-candidate.result
+    (pairs_hashed pairs c.self.inside.table (c.self.invariant.entered ∙ ap (map hash_of_pair) seen))
+    (hash_here pairs r s) now (λ x. other (subst (λ z. IsAt z r s c.in-Some.k) (sym seen) x))
+    c.older-candidate.ensures.some c.older-candidate.ensures.none
 
 pub returns-clause-none : goal.returns-clause-none
 returns-clause-none c k l x =
