@@ -6,7 +6,7 @@ use Rattle.std.proofs.lemmas.Bool.{cases_eq, cases_lt, eq-eqb, ne_eqb, cond-true
 use Rattle.blic_model.specs.Circuit.{below}
 use Rattle.blic_model.specs.Value.{Point, bit}
 use Rattle.blic_claims.specs.Points.{point_of}
-use Rattle.blic_claims.specs.Elements.{point_from, fixed_bit, fixed_point, StandsFrom, Covers}
+use Rattle.blic_claims.specs.Elements.{point_from, fixed_bit, fixed_point, StandsFrom}
 use Rattle.blic_claims.specs.declared.elements.Fixed.{Fixed}
 use Rattle.blic_claims.proofs.BelowSums.{length_map_below, entry_map_below}
 use Rattle.blic_claims.proofs.FreeLevels.{Rising}
@@ -53,15 +53,6 @@ pub record IsCopiedTo (from : List ℕ) (source : ℕ) (levels : List ℕ) (targ
   pub written : (q : ℕ) → q < i → get_or new (target + q) 0 ≡ fixed_point fixed (point_from from source old) (get_or levels q 0)
   pub kept : (q : ℕ) → (q < target) ⊎ (target + i ≤ q) → get_or new q 0 ≡ get_or old q 0
   pub ahead : (q : ℕ) → i ≤ q → q < length levels → fixed_bit fixed (get_or levels q 0) ≡ None → StandsFrom j from (get_or levels q 0)
-
-pub copied_start : (from : List ℕ) (source : ℕ) (levels : List ℕ) (target : ℕ) (fixed : Option Fixed) (old : List ℕ) → Covers from fixed levels
-    → IsCopiedTo from source levels target fixed old 0 0 old
-copied_start from source levels target fixed old h = record {
-  long = refl;
-  written = λ q l. absurd (omega arith);
-  kept = λ q h. refl;
-  ahead = λ q l m e. h q m e;
-}
 
 -- an element more
 write : (from : List ℕ) (source : ℕ) (levels : List ℕ) (target : ℕ) (fixed : Option Fixed) (old new : List ℕ) (i j k n e : ℕ) → n ≡ i + 1

@@ -11,9 +11,9 @@ use Rattle.blic_model.specs.Circuit.{node_at, below, free_step, is_free, free}
 use Rattle.blic_model.specs.Order.{IsOrdered}
 use Rattle.blic_model.proofs.Ordered.{ordered_all}
 use Rattle.blic_model.proofs.Entries.{is_free-step}
+use Rattle.blic_model.proofs.ChildEntries.{length_of_below}
 use Rattle.blic_claims.specs.Elements.{StandsFrom, Covers, fixed_bit}
 use Rattle.blic_claims.specs.declared.elements.Fixed.{Fixed}
-use Rattle.blic_claims.proofs.Lists.{length-below}
 
 -- one number more, if it passes
 push : (p : ℕ → Bool) (n : ℕ) → filter p (below (suc n)) ≡ filter p (below n) ++ cond (p n) (n ∷ []) []
@@ -90,7 +90,7 @@ filter_has p (suc n) y l e = subst (λ xs. StandsFrom 0 xs y) (sym (push p n)) (
 -- the free levels of a node
 pub free_few : (nodes : List Node) (levels k : ℕ) → length (free nodes levels k) ≤ levels
 unfolding free
-free_few nodes levels k = omega (arith, length-filter (is_free nodes k) (below levels), count_by-le-length (is_free nodes k) (below levels), length-below levels)
+free_few nodes levels k = omega (arith, length-filter (is_free nodes k) (below levels), count_by-le-length (is_free nodes k) (below levels), length_of_below levels)
 
 pub free_rising : (nodes : List Node) (levels k : ℕ) → Rising (free nodes levels k)
 unfolding free

@@ -1,18 +1,15 @@
 -- The claims that a node has once the nodes above it are passed.
-use Rattle.std.proofs.Common.{arith, ℕ, zero, suc, ◌≡◌, ◌+◌, ◌-◌, ◌<◌, ◌≤◌, refl, ◌∙◌, ap, inl, inr, List, length, true, cond, ◌==◌, nat_lt}
+use Rattle.std.proofs.Common.{arith, ℕ, zero, suc, ◌≡◌, ◌+◌, ◌-◌, ◌<◌, ◌≤◌, ◌∙◌, ap, inl, inr, List, length, cond, ◌==◌}
 use Rattle.std.specs.Prelude.{sum_by}
-use mathlib.Core.Path.{ap₂}
-use Rattle.std.proofs.lemmas.Bool.{cases_eq, eq-eqb, ne_eqb, ltb-true, and_parts, cond-false, cond-true}
+use Rattle.std.proofs.lemmas.Bool.{cases_eq, eq-eqb, ne_eqb, cond-false, cond-true}
 use Rattle.blic_model.specs.declared.node.Node.{Node}
-use Rattle.blic_model.specs.declared.node.Node.TheVariants.{Const, Var, Not, Fix, And, Or}
 use Rattle.blic_model.specs.Circuit.{node_at, root, below}
 use Rattle.blic_model.specs.Counts.{handed_down, claims}
-use Rattle.blic_model.specs.Shape.{children_below}
 use Rattle.blic_model.specs.Order.{IsOrdered}
+use Rattle.blic_model.proofs.ClaimCounts.{first_claims, handed_nothing}
+use Rattle.blic_model.proofs.ChildEntries.{sum_below_none}
 use Rattle.blic_claims.specs.Places.{given}
-use Rattle.blic_claims.proofs.BelowSums.{sum_below_none}
 use Rattle.blic_claims.proofs.HandedClaims.{given_all, given_more, given_falls}
-use Rattle.blic_claims.proofs.SomeClaim.{root_claims}
 
 pub given_none : (nodes : List Node) (k a : ℕ) → root nodes < k → given nodes k a ≡ 0
 unfolding given
@@ -20,21 +17,6 @@ given_none nodes k a l =
     let handed : ℕ → ℕ = λ n. handed_down (node_at nodes (root nodes - n)) (claims nodes (root nodes - n)) a in
     let e : suc (root nodes) - k ≡ 0 = omega arith in
     ap (λ m. sum_by handed (below m)) e ∙ sum_below_none handed
-
-two_nothing : (i k a b : ℕ) → nat_lt a i ≡ true → nat_lt b i ≡ true → i ≤ k → cond (a == k) 1 0 + cond (b == k) 1 0 ≡ 0
-two_nothing i k a b p q l =
-    let s = ltb-true a i p in
-    let t = ltb-true b i q in
-    ap₂ (λ x y. cond x 1 0 + cond y 1 0) (ne_eqb a k (λ e. omega arith)) (ne_eqb b k (λ e. omega arith))
-
--- a node hands nothing to one that isn't below it
-handed_nothing : (i k m : ℕ) (n : Node) → children_below i n ≡ true → i ≤ k → handed_down n m k ≡ 0
-handed_nothing i k m (Const b) h l = refl
-handed_nothing i k m (Var x) h l = refl
-handed_nothing i k m (Not a) h l = (let lt = ltb-true a i h in ap (λ b. cond b m 0) (ne_eqb a k (λ e. omega arith)))
-handed_nothing i k m (Fix x b a) h l = (let lt = ltb-true a i h in ap (λ b. cond b m 0) (ne_eqb a k (λ e. omega arith)))
-handed_nothing i k m (And a b) h l = two_nothing i k a b (and_parts _ _ h).0 (and_parts _ _ h).1 l
-handed_nothing i k m (Or a b) h l = two_nothing i k a b (and_parts _ _ h).0 (and_parts _ _ h).1 l
 
 -- the root's own claim
 abbrev pub own_claim : List Node → ℕ → ℕ
@@ -49,7 +31,7 @@ claims_when_reached nodes a l = elim (cases_eq a (root nodes)) [
   | inl e ↦
       let own : own_claim nodes a ≡ 1 = cond-true (a == root nodes) 1 0 (eq-eqb a (root nodes) e) in
       let none = given_none nodes (suc a) a (omega arith) in
-      let one = ap (claims nodes) e ∙ root_claims nodes in
+      let one = ap (claims nodes) e ∙ first_claims nodes in
       omega arith
   | inr ne ↦
       let own = no_own_claim nodes a (omega arith) in

@@ -3,29 +3,33 @@ use Rattle.std.proofs.Common.{arith, ℕ, zero, suc, ◌≡◌, ◌+◌, ◌-◌
 use Rattle.std.proofs.lemmas.Bool.{cases_eq, cases_lt, eq-eqb, ne_eqb, cond-true, cond-false, eqb-true}
 use Rattle.std.proofs.lemmas.List.{get_or-map, length-map}
 use Rattle.std.specs.Prelude.{map}
-use Rattle.blic_model.specs.Circuit.{node_at, table, free, root}
-use Rattle.blic_model.specs.Counts.{claims_entry, claims}
+use Rattle.blic_model.specs.Circuit.{node_at, free, root}
+use Rattle.blic_model.specs.Counts.{claims}
 use Rattle.blic_model.specs.declared.node.Node.{Node}
+use Rattle.blic_model.proofs.ClaimCounts.{first_claims}
 use Rattle.blic_claims.proofs.ClaimCounts.{length-claims_on, length-claims_from}
+use Rattle.blic_claims.proofs.Drawn.{point_at_start}
 use Rattle.blic_claims.proofs.HandedClaims.{place_law, given_more, given_all}
 use Rattle.blic_claims.specs.Claims.{Transcript, Claim, claims_from, claims_on, no_claim}
-use Rattle.blic_claims.specs.Held.{count_from, AreHeld}
+use Rattle.blic_claims.specs.Held.{count_from, AreHeld, HasPoints}
 use Rattle.blic_claims.specs.Places.{given}
-
-root_count : (nodes : List Node) → claims nodes (root nodes) ≡ 1
-unfolding claims
-root_count nodes = (let e : root nodes - root nodes ≡ 0 = omega arith in ap (λ z. claims_entry nodes z (table (claims_entry nodes) z)) e)
 
 -- all claims on the node that is taken next are there
 pub count_own : (nodes : List Node) (k c : ℕ) → k < length nodes → c < claims nodes k → c < count_from nodes (suc k) k
 count_own nodes k c l h = elim (cases_eq k (root nodes)) [
-  | inl e ↦ (let n : claims nodes k ≡ 1 = ap (claims nodes) e ∙ root_count nodes in let m : count_from nodes (suc k) k ≡ 1 = cond-true (eqb k (root nodes)) 1 (given nodes (suc k) k) (eq-eqb k (root nodes) e) in omega arith)
+  | inl e ↦ (let n : claims nodes k ≡ 1 = ap (claims nodes) e ∙ first_claims nodes in let m : count_from nodes (suc k) k ≡ 1 = cond-true (eqb k (root nodes)) 1 (given nodes (suc k) k) (eq-eqb k (root nodes) e) in omega arith)
   | inr ne ↦ (let n = given_all nodes k (omega arith) in let m : count_from nodes (suc k) k ≡ given nodes (suc k) k = cond-false (eqb k (root nodes)) 1 (given nodes (suc k) k) (ne_eqb k (root nodes) ne) in omega arith)
 ]
 
 pub held_fewer : (nodes : List Node) (levels : ℕ) (T : Transcript) (k bound less : ℕ) (x : ℕ → ℕ → ℕ → ℕ) (v : ℕ → ℕ → ℕ) → less ≤ bound
     → AreHeld nodes levels T k bound x v → AreHeld nodes levels T k less x v
 held_fewer nodes levels T k bound less x v l F = record { point = λ a c f la lc lf. F.point a c f (omega arith) lc lf; value = λ a c la lc. F.value a c (omega arith) lc }
+
+-- and while none of its levels is drawn, the points of its claims are their own
+pub points_undrawn : (nodes : List Node) (levels : ℕ) (T : Transcript) (k : ℕ) (x : ℕ → ℕ → ℕ → ℕ) (v : ℕ → ℕ → ℕ) → k < length nodes
+    → AreHeld nodes levels T (suc k) (suc k) x v → HasPoints nodes levels T k (length (free nodes levels k)) x
+points_undrawn nodes levels T k x v lk F c f lc lf =
+    F.point k c f (omega arith) (count_own nodes k c lk lc) lf ∙ ap (λ s. s (get_or (free nodes levels k) f 0)) (sym (point_at_start nodes levels T k (get_or (claims_on nodes levels T k) c no_claim)))
 
 -- the claims that node k hands down to node a
 abbrev pub hands : List Node → ℕ → Transcript → ℕ → ℕ → List Claim

@@ -12,8 +12,9 @@ use Rattle.blic_model.specs.Value.{Point}
 use Rattle.blic_model.proofs.Ordered.{ChildrenBelow}
 use Rattle.blic_model.proofs.Entries.{is_free-step}
 use Rattle.blic_model.proofs.Reduced.{All-below}
+use Rattle.blic_model.proofs.ChildEntries.{length_of_below, entry_of_below}
 use Rattle.blic_claims.specs.Points.{PointTable, coordinate, point_of, stored_point}
-use Rattle.blic_claims.proofs.Lists.{Contains-cons_cases, Contains-filter, Contains-below, length-below, get_or-below}
+use Rattle.blic_claims.proofs.Lists.{Contains-cons_cases, Contains-filter, Contains-below}
 
 -- a list of levels with the elements of a point there is that point at these levels
 point_of_is : (xs es : List ℕ) (s : Point) (y : ℕ) → length es ≡ length xs → ((f : ℕ) → f < length xs → get_or es f 0 ≡ s (get_or xs f 0))
@@ -36,8 +37,8 @@ pub stored_is : (c : OrderedCircuit) (p : PointTable) (k d : ℕ) (s : Point) (y
 unfolding stored_point
 stored_is c p k d s y h m =
     let xs = free c.nodes (length c.order) k in
-    point_of_is xs (map (coordinate p k d) (below (length xs))) s y (length-map (below (length xs)) (coordinate p k d) ∙ length-below (length xs))
-    (λ f l. get_or-map (coordinate p k d) (below (length xs)) f 0 0 (subst (λ z. f < z) (sym (length-below (length xs))) l) ∙ (ap (coordinate p k d) (get_or-below (length xs) f 0 l) ∙ h f l)) m
+    point_of_is xs (map (coordinate p k d) (below (length xs))) s y (length-map (below (length xs)) (coordinate p k d) ∙ length_of_below (length xs))
+    (λ f l. get_or-map (coordinate p k d) (below (length xs)) f 0 0 (subst (λ z. f < z) (sym (length_of_below (length xs))) l) ∙ (ap (coordinate p k d) (entry_of_below (length xs) f 0 l) ∙ h f l)) m
 
 All-kept : (test : ℕ → Bool) (xs : List ℕ) → All (λ x. test x ≡ true) (filter test xs)
 All-kept test [] = All-nil (λ x. test x ≡ true)

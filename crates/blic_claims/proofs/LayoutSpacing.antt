@@ -1,21 +1,20 @@
 -- The rows of a layout follow each other, and so do the places of their values.
-use Rattle.std.proofs.Common.{arith, ℕ, zero, suc, ◌≡◌, ◌+◌, ◌*◌, ◌<◌, ◌≤◌, refl, sym, ◌∙◌, ap, subst, inl, inr, List, [], ◌∷◌, ◌++◌, length, get_or, Bool, true, ◌==◌, ◌&&◌}
+use Rattle.std.proofs.Common.{arith, ℕ, zero, suc, ◌≡◌, ◌+◌, ◌*◌, refl, sym, ◌∙◌, ap, subst, inl, inr, List, [], ◌∷◌, ◌++◌, length, get_or, Bool, true, ◌==◌, ◌&&◌}
 use Rattle.std.specs.Prelude.{IsTrue, sum_by}
-use Rattle.std.proofs.lemmas.Bool.{cases_eq, cases_lt, eq-eqb, eqb-true, false≢true}
+use Rattle.std.proofs.lemmas.Bool.{cases_eq, eq-eqb, eqb-true, false≢true}
 use Rattle.blic_model.specs.declared.node.Node.{Node}
 use Rattle.blic_model.specs.Circuit.{OrderedCircuit, root, below, free}
 use Rattle.blic_model.specs.Counts.{claims}
 use Rattle.blic_model.specs.Shape.{IsShaped}
 use Rattle.blic_model.proofs.Shaped.{size_of, closed_of}
+use Rattle.blic_model.proofs.ChildEntries.{sum_below_more}
 use Rattle.blic_claims.specs.Places.{layout_of, row_of, row_at}
-use Rattle.blic_claims.specs.Points.{IsPlace, element_place}
 use Rattle.blic_claims.specs.Counters.{rows_below}
 use Rattle.blic_claims.specs.Elements.{spaced}
 use Rattle.blic_claims.specs.declared.layout.Row.{Row}
-use Rattle.blic_claims.proofs.BelowSums.{map_below_more, sum_below_more, sum_below_le}
+use Rattle.blic_claims.proofs.BelowSums.{map_below_more}
 use Rattle.blic_claims.proofs.FreeLevels.{free_passing}
-use Rattle.blic_claims.proofs.LayoutRows.{row_is_of, claims_of_row}
-use Rattle.blic_claims.proofs.Spacing.{place_room, place_only}
+use Rattle.blic_claims.proofs.LayoutRows.{row_is_of}
 
 both : (a b : Bool) → a ≡ true → b ≡ true → (a && b) ≡ true
 both a b e f = grind arith
@@ -70,51 +69,3 @@ layout_spaced c shaped =
     subst (λ end. IsTrue (spaced 0 (rows_below c.nodes (length c.order) (length c.nodes)) end))
     (coordinates_of_root c.nodes (length c.order) shaped ∙ sym (ap (λ r. r.start) (row_is_of c (root c.nodes) (omega arith))))
     (rows_spaced c.nodes (length c.order) (length c.nodes))
-
--- a place is before the start of the root's row
-pub layout_place_room : (c : OrderedCircuit) (k a i : ℕ) → IsShaped c.nodes (length c.order) → IsPlace (layout_of c).rows k a i
-    → element_place (row_at (layout_of c).rows k) a i < (row_at (layout_of c).rows (root c.nodes)).start
-layout_place_room c k a i shaped p = place_room (layout_of c).rows (row_at (layout_of c).rows (root c.nodes)).start k a i (layout_spaced c shaped) p
-
--- no two claims, and no two levels of a claim, share a place
-pub layout_place_only : (c : OrderedCircuit) (k a i m b j : ℕ) → IsShaped c.nodes (length c.order) → IsPlace (layout_of c).rows k a i → IsPlace (layout_of c).rows m b j
-    → element_place (row_at (layout_of c).rows k) a i ≡ element_place (row_at (layout_of c).rows m) b j → (k ≡ m) × (a ≡ b) × (i ≡ j)
-layout_place_only c k a i m b j shaped p q e =
-    place_only (layout_of c).rows (row_at (layout_of c).rows (root c.nodes)).start k a i m b j (layout_spaced c shaped) p q e
-
--- where the values of a node's claims start
-pub first_of_row : (c : OrderedCircuit) (k : ℕ) → k < length c.nodes → (row_at (layout_of c).rows k).first ≡ sum_by (claims c.nodes) (below k)
-unfolding row_of
-first_of_row c k l = ap (λ r. r.first) (row_is_of c k l)
-
--- the values of a node are before those of the greater nodes
-pub values_before : (c : OrderedCircuit) (k m : ℕ) → k < m → m < length c.nodes
-    → (row_at (layout_of c).rows k).first + (row_at (layout_of c).rows k).claims ≤ (row_at (layout_of c).rows m).first
-values_before c k m l h =
-    let at_k = first_of_row c k (omega arith) in
-    let at_m = first_of_row c m h in
-    let more = sum_below_more (claims c.nodes) k in
-    let up = sum_below_le (claims c.nodes) (suc k) m (omega arith) in
-    let own = claims_of_row c k (omega arith) in
-    omega arith
-
--- and all are below the number of claims
-pub value_room : (c : OrderedCircuit) (k : ℕ) → k < length c.nodes
-    → (row_at (layout_of c).rows k).first + (row_at (layout_of c).rows k).claims ≤ sum_by (claims c.nodes) (below (length c.nodes))
-value_room c k l =
-    let at_k = first_of_row c k l in
-    let more = sum_below_more (claims c.nodes) k in
-    let up = sum_below_le (claims c.nodes) (suc k) (length c.nodes) (omega arith) in
-    let own = claims_of_row c k l in
-    omega arith
-
--- no two claims share the place of a value
-pub value_only : (c : OrderedCircuit) (k a m b : ℕ) → k < length c.nodes → a < (row_at (layout_of c).rows k).claims → m < length c.nodes
-    → b < (row_at (layout_of c).rows m).claims → (row_at (layout_of c).rows k).first + a ≡ (row_at (layout_of c).rows m).first + b → (k ≡ m) × (a ≡ b)
-value_only c k a m b lk la lm lb e = elim (cases_lt k m) [
-  | inl l ↦ (let u = values_before c k m l lm in absurd (omega arith))
-  | inr l ↦ elim (cases_eq k m) [
-    | inl same ↦ (let w = ap (λ z. (row_at (layout_of c).rows z).first) same in (same, omega arith))
-    | inr ne ↦ (let u = values_before c m k (omega arith) lk in absurd (omega arith))
-  ]
-]

@@ -8,13 +8,13 @@ use Rattle.blic_model.specs.declared.node.Node.{Node}
 use Rattle.blic_model.specs.Circuit.{OrderedCircuit, node_at, below, free}
 use Rattle.blic_model.specs.Counts.{is_binary, claims, draws, points}
 use Rattle.blic_model.specs.CircuitLimits.{IsWithinLimits}
+use Rattle.blic_model.proofs.ChildEntries.{length_of_below, sum_below_none, sum_below_more, sum_below_agree}
 use Rattle.blic_claims.specs.Places.{Places, row_of, layout_of}
 use Rattle.blic_claims.specs.Turns.{Turn, ForPolys, ForValues, node_turns, turns}
 use Rattle.blic_claims.specs.Counters.{all_claims, all_places, rows_below, binary_sum, both_totals, totals_of, totals_below}
 use Rattle.blic_claims.specs.declared.layout.Row.{Row}
 use Rattle.blic_claims.specs.declared.totals.Totals.{Totals}
-use Rattle.blic_claims.proofs.Lists.{length-below}
-use Rattle.blic_claims.proofs.BelowSums.{length_map_below, entry_map_below, map_below_more, sum_below_none, sum_below_more, sum_below_agree, sum_below_reversed}
+use Rattle.blic_claims.proofs.BelowSums.{length_map_below, entry_map_below, map_below_more, sum_below_reversed}
 
 pub claims_read : (nodes : List Node) (counts : List ℕ) (k : ℕ) → counts ≡ all_claims nodes → k < length nodes → get_or counts k 0 ≡ claims nodes k
 claims_read nodes counts k e l = ap (λ xs. get_or xs k 0) e ∙ entry_map_below (claims nodes) (length nodes) k 0 l
@@ -82,7 +82,7 @@ length_node_turns nodes levels k = go (is_binary (node_at nodes k))
     all =
         length_push polys (ForValues k)
         ∙ ap (λ n. n + 1)
-        (length-map (reverse (below (length (free nodes levels k)))) (ForPolys k) ∙ (length-reverse (below (length (free nodes levels k))) ∙ length-below (length (free nodes levels k))))
+        (length-map (reverse (below (length (free nodes levels k)))) (ForPolys k) ∙ (length-reverse (below (length (free nodes levels k))) ∙ length_of_below (length (free nodes levels k))))
 
     go : (b : Bool) → length (cond b (polys ++ ForValues k ∷ []) []) ≡ cond b (length (free nodes levels k) + 1) 0
     go true = all

@@ -28,6 +28,7 @@ pub mod Lists
 pub mod Pairs
 pub mod Places
 pub mod Rows
+pub mod Settling
 pub mod SomeClaim
 pub mod Spacing
 pub mod Starting

@@ -3,7 +3,7 @@ use Rattle.std.proofs.Common.{arith, ℕ, zero, suc, ◌≡◌, ◌+◌, ◌<◌
 use Rattle.std.specs.Prelude.{filter, All, Contains, map, flat_map, reverse, sum_by}
 use mathlib.Core.Path.{ap₂}
 use Rattle.std.proofs.lemmas.Bool.{cases_eq}
-use Rattle.std.proofs.lemmas.List.{get_or_append_left, get_or-append-add, get_or_push, length-append, length_push}
+use Rattle.std.proofs.lemmas.List.{get_or_append_left, get_or-append-add, length-append}
 use Rattle.std.proofs.lemmas.List.Sums.{sum_by-cons}
 use Rattle.std.proofs.lemmas.List.Elements.{All-nil, All-append, All-contains, Contains-get_or, Contains-append_left, Contains-append_right, Contains-push, Contains-append_cases}
 use Rattle.std.proofs.lemmas.List.Sorted.{IsPermutation-reverse, Contains-permutation, All-permutation}
@@ -50,11 +50,6 @@ Contains-below (suc n) j l =
       | inr ne ↦ Contains-append_left (below n) (n ∷ []) j (Contains-below n j (omega arith))
     ]
 
-pub length-below : (n : ℕ) → length (below n) ≡ n
-unfolding below
-length-below zero = refl
-length-below (suc n) = length_push (below n) n ∙ (ap (λ z. z + 1) (length-below n) ∙ omega arith)
-
 pub Contains-reverse : {X : Type 0} (xs : List X) (x : X) → Contains xs x → Contains (reverse xs) x
 Contains-reverse xs x c = Contains-permutation xs (reverse xs) x (IsPermutation-reverse xs) c
 
@@ -100,17 +95,6 @@ below_contains (suc n) x c =
   where
     none : Contains [] x → ⊥
     none (k, l, e) = omega arith
-
-pub get_or-below : (n j d : ℕ) → j < n → get_or (below n) j d ≡ j
-unfolding below
-get_or-below zero j d l = absurd (omega arith)
-get_or-below (suc n) j d l =
-    elim (cases_eq j n) [
-      | inl e ↦ subst (λ z. get_or (below n ++ n ∷ []) z d ≡ z) (sym e) (get_or_push (below n) n d n (length-below n))
-      | inr ne ↦
-          let q : j < length (below n) = omega (arith, length-below n) in
-          get_or_append_left (below n) (n ∷ []) d j q ∙ get_or-below n j d (omega arith)
-    ]
 
 pub All-below-lt : (n : ℕ) → All (λ j. j < n) (below n)
 All-below-lt n k d l = below_contains n (get_or (below n) k d) (Contains-get_or (below n) k d l)

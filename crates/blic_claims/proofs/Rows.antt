@@ -7,9 +7,9 @@ use Rattle.std.proofs.lemmas.List.Sums.{sum_by-append}
 use Rattle.blic_model.specs.declared.node.Node.{Node}
 use Rattle.blic_model.specs.Circuit.{OrderedCircuit, node_at, root, below, free}
 use Rattle.blic_model.specs.Counts.{handed_down, claims}
+use Rattle.blic_model.proofs.ChildEntries.{length_of_below, entry_of_below}
 use Rattle.blic_claims.specs.Places.{given, row_of, places_of, layout_of, no_row, row_at, first_place, second_place}
 use Rattle.blic_claims.specs.declared.layout.Row.{Row}
-use Rattle.blic_claims.proofs.Lists.{length-below, get_or-below}
 use Rattle.blic_claims.proofs.HandedClaims.{given_all, given_more, given_falls}
 
 -- what stands in node k's row
@@ -20,17 +20,17 @@ pub record IsRow (c : OrderedCircuit) (k : ℕ) (r : Row) : Type 0 where
 
 pub length-rows : (c : OrderedCircuit) → length (layout_of c).rows ≡ length c.nodes
 unfolding layout_of
-length-rows c = length-map (below (length c.nodes)) (row_of c.nodes (length c.order)) ∙ length-below (length c.nodes)
+length-rows c = length-map (below (length c.nodes)) (row_of c.nodes (length c.order)) ∙ length_of_below (length c.nodes)
 
 pub length-handed : (c : OrderedCircuit) → length (layout_of c).handed ≡ length c.nodes
 unfolding layout_of
-length-handed c = length-map (below (length c.nodes)) (λ k. places_of c.nodes k (node_at c.nodes k)) ∙ length-below (length c.nodes)
+length-handed c = length-map (below (length c.nodes)) (λ k. places_of c.nodes k (node_at c.nodes k)) ∙ length_of_below (length c.nodes)
 
 pub row_is : (c : OrderedCircuit) (k : ℕ) → k < length c.nodes → row_at (layout_of c).rows k ≡ row_of c.nodes (length c.order) k
 unfolding layout_of
 row_is c k l =
-    get_or-map (row_of c.nodes (length c.order)) (below (length c.nodes)) k 0 no_row (subst (λ z. k < z) (sym (length-below (length c.nodes))) l)
-    ∙ ap (row_of c.nodes (length c.order)) (get_or-below (length c.nodes) k 0 l)
+    get_or-map (row_of c.nodes (length c.order)) (below (length c.nodes)) k 0 no_row (subst (λ z. k < z) (sym (length_of_below (length c.nodes))) l)
+    ∙ ap (row_of c.nodes (length c.order)) (entry_of_below (length c.nodes) k 0 l)
 
 pub is_row : (c : OrderedCircuit) (k : ℕ) → k < length c.nodes → IsRow c k (row_at (layout_of c).rows k)
 unfolding row_of
@@ -39,8 +39,8 @@ is_row c k l = let e = row_is c k l in record { count = ap (λ r. r.claims) e; w
 places_are : (c : OrderedCircuit) (k : ℕ) → k < length c.nodes → get_or (layout_of c).handed k (0, 0) ≡ places_of c.nodes k (node_at c.nodes k)
 unfolding layout_of
 places_are c k l =
-    get_or-map (λ k. places_of c.nodes k (node_at c.nodes k)) (below (length c.nodes)) k 0 (0, 0) (subst (λ z. k < z) (sym (length-below (length c.nodes))) l)
-    ∙ ap (λ k. places_of c.nodes k (node_at c.nodes k)) (get_or-below (length c.nodes) k 0 l)
+    get_or-map (λ k. places_of c.nodes k (node_at c.nodes k)) (below (length c.nodes)) k 0 (0, 0) (subst (λ z. k < z) (sym (length_of_below (length c.nodes))) l)
+    ∙ ap (λ k. places_of c.nodes k (node_at c.nodes k)) (entry_of_below (length c.nodes) k 0 l)
 
 pub first_is : (c : OrderedCircuit) (k : ℕ) → k < length c.nodes → first_place (layout_of c) k ≡ (places_of c.nodes k (node_at c.nodes k)).0
 first_is c k l = ap (λ p. p.0) (places_are c k l)

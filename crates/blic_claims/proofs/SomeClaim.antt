@@ -6,11 +6,12 @@ use Rattle.std.proofs.lemmas.List.{get_or_default}
 use Rattle.std.proofs.lemmas.List.Folds.{Any-from_list_any}
 use Rattle.blic_model.specs.declared.node.Node.{Node}
 use Rattle.blic_model.specs.declared.node.Node.TheVariants.{Const, Var, Not, Fix, And, Or}
-use Rattle.blic_model.specs.Circuit.{node_at, root, table}
-use Rattle.blic_model.specs.Counts.{handed_down, claims_entry, claims}
+use Rattle.blic_model.specs.Circuit.{node_at, root}
+use Rattle.blic_model.specs.Counts.{handed_down, claims}
 use Rattle.blic_model.specs.Shape.{is_child, IsShaped}
 use Rattle.blic_model.proofs.Ordered.{ChildrenBelow, ordered_all, strong}
 use Rattle.blic_model.proofs.Shaped.{ordered_of, child_of}
+use Rattle.blic_model.proofs.ClaimCounts.{first_claims}
 use Rattle.blic_claims.specs.ClaimLaws.{SomeClaimLaw}
 use Rattle.blic_claims.specs.Places.{given}
 use Rattle.blic_claims.proofs.HandedClaims.{given_all, given_more, given_falls}
@@ -50,17 +51,13 @@ handed-le nodes k p l lp =
     let u : given nodes (suc k + (p - suc k)) k ≡ given nodes p k = ap (λ z. given nodes z k) e in
     omega (arith, given_all nodes k (omega arith), given_more nodes p k lp, given_falls nodes k (p - suc k) (suc k) (omega arith), u)
 
-pub root_claims : (nodes : List Node) → claims nodes (root nodes) ≡ 1
-unfolding claims
-root_claims nodes = (let e : root nodes - root nodes ≡ 0 = omega arith in ap (λ n. claims_entry nodes n (table (claims_entry nodes) n)) e)
-
 parent_of : (nodes : List Node) (k : ℕ) → Any (λ n. is_child k n ≡ true) nodes → (p : ℕ) × (p < length nodes) × (is_child k (node_at nodes p) ≡ true)
 parent_of nodes k (p, n, l, e, h) = (p, l, sym (ap (is_child k) (get_or_default nodes p n (Const false) l)) ∙ (ap (is_child k) e ∙ h))
 
 some_claim : (nodes : List Node) (levels : ℕ) → IsShaped nodes levels → (k : ℕ)
     → ((j : ℕ) → j < root nodes - k → (m : ℕ) → m < length nodes → root nodes - m ≡ j → 0 < claims nodes m) → k < length nodes → 0 < claims nodes k
 some_claim nodes levels h k ih l = elim (cases_eq k (root nodes)) [
-  | inl e ↦ subst (λ j. 0 < claims nodes j) (sym e) (subst (λ c. 0 < c) (sym (root_claims nodes)) (omega arith))
+  | inl e ↦ subst (λ j. 0 < claims nodes j) (sym e) (subst (λ c. 0 < c) (sym (first_claims nodes)) (omega arith))
   | inr ne ↦
       let p = parent_of nodes k (Any-from_list_any (is_child k) nodes (child_of nodes levels h k (omega arith))) in
       let above = child_below k p.0 (node_at nodes p.0) (ordered_all nodes (ordered_of nodes levels h) p.0) p.2 in

@@ -10,8 +10,8 @@ use Rattle.blic_model.specs.declared.node.Node.{Node}
 use Rattle.blic_model.specs.declared.node.Node.TheVariants.{Const}
 use Rattle.blic_model.specs.Circuit.{node_at, below, free}
 use Rattle.blic_model.specs.Counts.{is_binary}
+use Rattle.blic_model.proofs.ChildEntries.{length_of_below, entry_of_below}
 use Rattle.blic_claims.specs.Turns.{Turn, ForPolys, ForValues, node_turns, turns, sum_above, polys_number, values_number}
-use Rattle.blic_claims.proofs.Lists.{length-below, get_or-below}
 
 -- the sum of g over k < j < n
 pub above : (ℕ → ℕ) → ℕ → ℕ → ℕ
@@ -69,7 +69,7 @@ abbrev pub turns_of : ℕ → ℕ → List Turn
 turns_of k w = map (ForPolys k) (reverse (below w)) ++ ForValues k ∷ []
 
 pub length-polys_turns : (k w : ℕ) → length (map (ForPolys k) (reverse (below w))) ≡ w
-length-polys_turns k w = length-map (reverse (below w)) (ForPolys k) ∙ (length-reverse (below w) ∙ length-below w)
+length-polys_turns k w = length-map (reverse (below w)) (ForPolys k) ∙ (length-reverse (below w) ∙ length_of_below w)
 
 length-turns_of : (k w : ℕ) → length (turns_of k w) ≡ w + 1
 length-turns_of k w = length_push (map (ForPolys k) (reverse (below w))) (ForValues k) ∙ ap (λ z. z + 1) (length-polys_turns k w)
@@ -124,13 +124,13 @@ polys_turn nodes levels k i l b h =
     ∙ (ap (λ ts. get_or ts (length (free nodes levels k) - 1 - i) (ForValues 0)) (binary_turns nodes levels k b) ∙
     (let n = length (free nodes levels k) in
     let p = n - 1 - i in
-    let inside : p < length (reverse (below n)) = omega (arith, length-reverse (below n), length-below n) in
+    let inside : p < length (reverse (below n)) = omega (arith, length-reverse (below n), length_of_below n) in
     let inside_map : p < length (map (ForPolys k) (reverse (below n))) = omega (arith, length-polys_turns k n) in
-    let inside_below : p < length (below n) = omega (arith, length-below n) in
-    let back : length (below n) - 1 - p ≡ i = omega (arith, length-below n) in
+    let inside_below : p < length (below n) = omega (arith, length_of_below n) in
+    let back : length (below n) - 1 - p ≡ i = omega (arith, length_of_below n) in
     get_or_append_left (map (ForPolys k) (reverse (below n))) (ForValues k ∷ []) (ForValues 0) p inside_map
     ∙ (get_or-map (ForPolys k) (reverse (below n)) p 0 (ForValues 0) inside
-    ∙ ap (ForPolys k) (get_or-reverse (below n) p 0 inside_below ∙ (ap (λ z. get_or (below n) z 0) back ∙ get_or-below n i 0 h)))))
+    ∙ ap (ForPolys k) (get_or-reverse (below n) p 0 inside_below ∙ (ap (λ z. get_or (below n) z 0) back ∙ entry_of_below n i 0 h)))))
 
 -- a larger node's replies come first, and so do its draws.
 pub values_first : (nodes : List Node) (levels k j : ℕ) → k < j → j < length nodes → is_binary (node_at nodes j) ≡ true

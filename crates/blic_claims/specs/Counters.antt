@@ -1,4 +1,4 @@
--- What is counted on the way through the nodes; only the making of layouts speaks of it.
+-- Private: what is counted on the way through the nodes; only the making of layouts speaks of it.
 use Rattle.std.specs.Prelude.{ℕ, ◌+◌, ◌*◌, cond, ◌==◌, List, map, length, sum_by}
 use Rattle.blic_model.specs.declared.node.Node.{Node}
 use Rattle.blic_model.specs.declared.node.Node.TheVariants.{Const, Var, Not, Fix, And, Or}

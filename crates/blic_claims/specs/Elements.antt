@@ -1,4 +1,4 @@
--- Rows and points in one list of elements; only points speak of it.
+-- Private: rows and points in one list of elements; only points speak of it.
 use Rattle.std.specs.Prelude.{ℕ, zero, suc, ◌≡◌, ◌+◌, ◌*◌, ◌-◌, ◌<◌, ◌≤◌, ◌⊎◌, Bool, cond, ◌==◌, ◌&&◌, List, [], ◌∷◌, slice_index, slice_set, map, length, Option, Some, None}
 use Rattle.blic_model.specs.Circuit.{OrderedCircuit, below, free}
 use Rattle.blic_model.specs.Value.{Point, put, bit}
@@ -36,8 +36,8 @@ fixed_point None s = s
 fixed_point (Some f) s = put s f.level (bit f.bit)
 
 -- from `to` on stand the elements of the point at the levels
-abbrev pub StandsAt : List ℕ → ℕ → Point → List ℕ → Type 0
-StandsAt elements to s levels = (i : ℕ) → i < length levels → slice_index elements (to + i) ≡ s (slice_index levels i)
+abbrev pub HasPointAt : List ℕ → ℕ → Point → List ℕ → Type 0
+HasPointAt elements to s levels = (i : ℕ) → i < length levels → slice_index elements (to + i) ≡ s (slice_index levels i)
 
 -- the elements stay, but for the n from `to` on
 abbrev pub StaysOutside : ℕ → ℕ → List ℕ → List ℕ → Type 0

@@ -1,7 +1,7 @@
 -- What an honest prover replies at each turn, by its own draws.
 use Rattle.std.specs.Prelude.{ℕ, ◌+◌, Bool, ◌==◌, List, map, slice_index_or}
 use Rattle.blic_model.specs.declared.node.Node.{Node}
-use Rattle.blic_model.specs.declared.node.Node.TheVariants.{Const, Var, Not, Fix, And, Or}
+use Rattle.blic_model.specs.declared.node.Node.TheVariants.{And, Or}
 use Rattle.blic_model.specs.Circuit.{node_at, root, table}
 use Rattle.blic_model.specs.Value.{value}
 use Rattle.blic_model.specs.Reduction.{poly}
@@ -12,14 +12,11 @@ use Rattle.blic_claims.specs.Turns.{Turn, ForPolys, ForValues, Reply, Polys, Val
 abbrev pub honest_answer : List Node → ℕ → Bool
 honest_answer nodes levels = value nodes levels (root nodes) zero_point == 1
 
--- the operands of a binary node; another node's don't matter
+-- the operands of a binary node; another node has none
 abbrev pub operands : Node → ℕ × ℕ
-operands (Const b) = (0, 0)
-operands (Var x) = (0, 0)
-operands (Not a) = (a, a)
-operands (Fix x b a) = (a, a)
 operands (And a b) = (a, b)
 operands (Or a b) = (a, b)
+operands _ = (0, 0)
 
 -- the honest reply at a turn: the polynomial of each claim's point at that moment, or the operands' values at the node's point
 abbrev pub honest_at : List Node → ℕ → Transcript → Turn → Reply

@@ -47,6 +47,11 @@ polys_number nodes levels k i = replies_above nodes levels k + (length (free nod
 abbrev pub values_number : List Node → ℕ → ℕ → ℕ
 values_number nodes levels k = replies_above nodes levels k + length (free nodes levels k)
 
+-- what is made of a reply, by its kind
+abbrev pub reply_by : {A : Type 0} → (List Quadratic → A) → (ℕ → ℕ → A) → Reply → A
+reply_by polys values (Polys ps) = polys ps
+reply_by polys values (Values u w) = values u w
+
 abbrev pub no_reply : Reply
 no_reply = Values 0 0
 

@@ -3,9 +3,8 @@ ghost use Rattle.std.specs.Prelude.{◌≡◌, ◌<◌, ◌≤◌, ◌+◌, ◌*
 ghost use Rattle.blic_model.specs.Circuit.{OrderedCircuit, below, node_at, free};
 ghost use Rattle.blic_model.specs.Counts.{claims, is_binary};
 ghost use Rattle.blic_model.specs.Value.{value};
-ghost use Rattle.blic_model.specs.Reduction.{poly};
 ghost use Rattle.blic_claims.specs.Honest.{honest_answer, operands};
-ghost use Rattle.blic_claims.specs.Points.{ArePointsOf, Draws, HasOnePoint, PointTable, stored_point};
+ghost use Rattle.blic_claims.specs.Points.{ArePointsOf, Draws, HasOnePoint, PointTable, stored_point, stored_poly};
 
 use crate::points::Points;
 use blic_basic::Steps;
@@ -56,9 +55,7 @@ pub trait Answers {
         requires room { length out.old ≡ claims (circuit self.old).nodes node }
         ensures circuit { circuit self.new ≡ circuit self.old }
         ensures most { most self.new ≡ most self.old }
-        ensures polys { out.new ≡ map
-            (λ k. poly (circuit self.old).nodes (length (circuit self.old).order) node j (stored_point (circuit self.old) points.now node k))
-            (below (claims (circuit self.old).nodes node)) }
+        ensures polys { out.new ≡ map (stored_poly (circuit self.old) points.now node j) (below (claims (circuit self.old).nodes node)) }
         ensures goes_on { (r : ℕ) (next : PointTable) → next.rows ≡ points.now.rows → Draws points.now node j r next → goes_on self.new next node j }
         ensures at_most { steps.new ≤ steps.old + length out.old * most self.old node }
         ensures at_least { steps.old ≤ steps.new };

@@ -1,6 +1,6 @@
 // Writes to the elements of points.
 ghost use Rattle.std.specs.Prelude.{◌≡◌, ◌<◌, ◌≤◌, ◌+◌, ◌*◌, ◌⊎◌, ℕ, length, slice_index};
-ghost use Rattle.blic_claims.specs.Elements.{column, levels_of, point_from, fixed_bit, fixed_point, StandsAt, StaysOutside, StandsFrom, Covers};
+ghost use Rattle.blic_claims.specs.Elements.{column, levels_of, point_from, fixed_bit, fixed_point, HasPointAt, StaysOutside, StandsFrom, Covers};
 
 use crate::layout::Row;
 use blic_field::Fe;
@@ -46,7 +46,7 @@ pub(crate) fn copy_point(
     requires room { to.start + length (levels_of circuit.now to.node) ≤ length elements.old }
     requires apart { (from.start + length (levels_of circuit.now from.node) ≤ to.start) ⊎ (to.start + length (levels_of circuit.now to.node) ≤ from.start) }
     requires covered { Covers (levels_of circuit.now from.node) fixed (levels_of circuit.now to.node) }
-    ensures written { StandsAt elements.new to.start (fixed_point fixed (point_from (levels_of circuit.now from.node) from.start elements.old)) (levels_of circuit.now to.node) }
+    ensures written { HasPointAt elements.new to.start (fixed_point fixed (point_from (levels_of circuit.now from.node) from.start elements.old)) (levels_of circuit.now to.node) }
     ensures kept { StaysOutside to.start (length (levels_of circuit.now to.node)) elements.old elements.new }
 {
     let mut j = 0;

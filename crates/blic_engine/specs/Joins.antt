@@ -1,4 +1,4 @@
--- The binary nodes by their operations.
+-- Private: the binary nodes by their operations.
 use Rattle.std.specs.Prelude.{ℕ}
 use Rattle.blic_model.specs.declared.node.Node.{Node}
 use Rattle.blic_apply.specs.declared.operation.Op.{Op}

@@ -1,4 +1,4 @@
--- The room that answers about a circuit take, and what is kept in it.
+-- Private: the room that answers about a circuit take, and what is kept in it.
 use Rattle.std.specs.Prelude.{◌≡◌, ◌≤◌, ℕ, IfSome, List, Option, length, true}
 use Rattle.blic_model.specs.declared.node.Node.{Node}
 use Rattle.blic_model.specs.Circuit.{OrderedCircuit, is_free, node_at, root}

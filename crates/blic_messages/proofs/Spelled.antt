@@ -1,5 +1,5 @@
 -- What frames that spell a reply have in common.
-use Rattle.std.proofs.Common.{arith, ℕ, ◌≡◌, ◌+◌, ◌-◌, ◌^◌, ◌<◌, ◌≤◌, refl, sym, ◌∙◌, ap, Bool, cond, List, [], ◌∷◌, ◌++◌, length, get_or, take, drop}
+use Rattle.std.proofs.Common.{arith, ℕ, ◌≡◌, ◌+◌, ◌-◌, ◌^◌, ◌<◌, ◌≤◌, refl, sym, ◌∙◌, ap, cond, List, [], ◌∷◌, ◌++◌, length, get_or, take, drop}
 use Rattle.std.specs.Prelude.{flat_map, All}
 use Rattle.std.proofs.Common.{length-drop, drop-cons}
 use Rattle.std.proofs.lemmas.List.{take_rest, take-append-drop}
@@ -56,12 +56,6 @@ same_parts k j body other e = let h : k ∷ body ≡ j ∷ other = ap (drop 4) e
 -- the kind and the body of a frame that spells a reply are that reply's
 pub spelled_parts : (k : ℕ) (body : List ℕ) (s : Said) → framed k body ≡ reply_spelling s → (k ≡ kind_of s) × (body ≡ body_of s)
 spelled_parts k body s e = same_parts k (kind_of s) body (body_of s) (e ∙ spelling_framed s)
-
-pub no_answer : (body : List ℕ) → ((b : Bool) → body ≡ cond b 1 0 ∷ [] → ⊥) → (s : Said) → IsReply s → framed 129 body ≡ reply_spelling s → ⊥
-no_answer body never (Answer b) ok e = never b (spelled_parts 129 body (Answer b) e).1
-no_answer body never (Polys ps) ok e = let h = (spelled_parts 129 body (Polys ps) e).0 in omega arith
-no_answer body never (Values u w) ok e = let h = (spelled_parts 129 body (Values u w) e).0 in omega arith
-no_answer body never (Refused r) ok e = let h = (spelled_parts 129 body (Refused r) e).0 in omega arith
 
 pub no_polys : (body : List ℕ) → ((ps : List Quadratic) → 1 ≤ length ps → length ps ≤ 65536 → All HasElements ps → body ≡ flat_map poly_body ps → ⊥)
     → (s : Said) → IsReply s → framed 130 body ≡ reply_spelling s → ⊥

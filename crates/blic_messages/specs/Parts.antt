@@ -1,4 +1,4 @@
--- What a part of a frame says.
+-- Private: what a part of a frame says.
 use Rattle.std.specs.Prelude.{ℕ, ◌≡◌, ◌<◌, List, Option, Some, None}
 use Rattle.blic_field.specs.Field.{modulus}
 

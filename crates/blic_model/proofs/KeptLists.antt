@@ -2,10 +2,8 @@
 use Rattle.std.proofs.Common.{arith, ℕ, ◌≡◌, ◌<◌, sym, ◌∙◌, ap, subst, List, [], length, get_or}
 use Rattle.blic_model.specs.declared.node.Node.{Node}
 use Rattle.blic_model.specs.Circuit.{OrderedCircuit, free}
-use Rattle.blic_model.specs.Counts.{points}
 use Rattle.blic_model.specs.Shape.{IsShaped}
 use Rattle.blic_model.specs.CircuitTables.{IsTabled, HasLevels, IsKept}
-use Rattle.blic_model.specs.LevelLists.{free_lists}
 use Rattle.blic_model.proofs.FreeLists.{entry_of_lists, length_of_lists}
 use Rattle.blic_model.proofs.FreeCounts.{few_free}
 use Rattle.blic_model.proofs.ShapedParts.{tabled_from_shaped}
@@ -26,14 +24,6 @@ seen_at nodes order version circuit stored i view k l =
       kept_at nodes (length order) stored i k m ∙ ap (λ c. free c.nodes (length c.order) i) view,
       omega (arith, ap length (kept_at nodes (length order) stored i k m), few_free nodes (length order) i, (tabled_from_shaped nodes (length order) k.shaped).1.few),
     )
-
-pub made_lists : (nodes read : List Node) (levels : ℕ) (stored : List (List ℕ)) → read ≡ nodes → IsShaped nodes levels → ((l : ℕ) → HasLevels read l → stored ≡ free_lists read l (length read))
-    → stored ≡ free_lists nodes levels (length nodes)
-made_lists nodes read levels stored e shaped made =
-    made levels (subst (λ ns. HasLevels ns levels) (sym e) (tabled_from_shaped nodes levels shaped).1) ∙ ap (λ ns. free_lists ns levels (length ns)) e
-
-pub made_points : (nodes read : List Node) (levels r : ℕ) → read ≡ nodes → r ≡ points read levels → r ≡ points nodes levels
-made_points nodes read levels r e f = f ∙ ap (λ ns. points ns levels) e
 
 pub tabled_read : (nodes read : List Node) (levels : ℕ) → IsShaped nodes levels → read ≡ nodes → IsTabled read
 tabled_read nodes read levels shaped e = subst IsTabled (sym e) (tabled_from_shaped nodes levels shaped).0

@@ -58,9 +58,6 @@ bit_is false false e = refl
 bit_is true false e = absurd (omega arith)
 bit_is false true e = absurd (omega arith)
 
-var_is : (x y : ℕ) → Var x ≡ Var y → x ≡ y
-var_is x y e = cc
-
 same_code : (levels : ℕ) (nodes : List Node) → Apart nodes → (q : ℕ) (m n : Node) → HasCode levels nodes q m → HasCode levels nodes q n → m ≡ n
 unfolding HasCode
 same_code levels nodes a q (Const b) (Const c) h g = ap Const (bit_is b c (sym h ∙ g))

@@ -129,10 +129,6 @@ word_without p q first a b e f =
     rest : 340282366920938463463374607431768211455 - b ≡ mask_l (map (λ x. not (q x)) (levels_from first 128))
     rest = omega (arith, f, all, other_mask q (levels_from first 128))
 
-pub word_small : (p : ℕ → Bool) (first : ℕ) → word p first < 340282366920938463463374607431768211456
-unfolding word
-word_small p first = omega (arith, other_mask p (levels_from first 128), ap (λ n. 2 ^ n) (length_of_levels first 128))
-
 pub word_count : (p : ℕ → Bool) (first a : ℕ) → a ≡ word p first → count_ones a ≡ length (filter p (levels_from first 128))
 unfolding word
 word_count p first a e = ap count_ones e ∙ (ones-mask_l p (levels_from first 128) ∙ sym (length-filter p (levels_from first 128)))

@@ -1,8 +1,8 @@
 pub mod Adding
 mod Binding
 pub mod BitPoints
-mod ChildEntries
-mod ClaimCounts
+pub mod ChildEntries
+pub mod ClaimCounts
 pub mod Degrees
 pub mod Depends
 mod DifferentNodes

@@ -18,10 +18,6 @@ use Rattle.blic_model.proofs.Adding.{Means, Gives, kept, after, reads, add_fix, 
 use Rattle.blic_model.proofs.Matrix.{by_level}
 use Rattle.blic_model.proofs.LevelOf.{HasLevels}
 
--- a variable that stands in no clause has no effect
-or_same : (a b c d : Bool) → a ≡ c → b ≡ d → (a || b) ≡ (c || d)
-or_same a b c d p q = cc
-
 unused_clause : (v : ℕ) (x : Bool) (a : ℕ → Bool) (c : List Lit) → list_any (λ l. eqb l.var v) c ≡ false
     → clause_holds (put a v x) c ≡ clause_holds a c
 unused_clause v x a [] h = refl

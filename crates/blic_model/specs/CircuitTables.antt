@@ -1,4 +1,4 @@
--- What the tables of a circuit say; only the making of circuits speaks of it.
+-- Private: what the tables of a circuit say; only the making of circuits speaks of it.
 use Rattle.std.specs.Prelude.{◌≡◌, ℕ, ◌+◌, ◌*◌, ◌<◌, ◌≤◌, true, cond, List, filter, length, slice_index, sum_by}
 use Rattle.blic_model.specs.declared.node.Node.{Node}
 use Rattle.blic_model.specs.Circuit.{node_at, below, is_free}

@@ -1,4 +1,4 @@
--- Lists of levels that stand in one list; only the free levels of circuits are stored so.
+-- Private: lists of levels that stand in one list; only the free levels of circuits are stored so.
 use Rattle.std.specs.Prelude.{ℕ, ◌-◌, ◌≤◌, cond, not, ◌==◌, nat_lt, List, [], ◌∷◌, take, drop, filter, length, map, slice_index_or}
 use Rattle.blic_model.specs.declared.node.Node.{Node}
 use Rattle.blic_model.specs.declared.node.Node.TheVariants.{Const, Var, Not, Fix, And, Or}

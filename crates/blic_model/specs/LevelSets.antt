@@ -1,4 +1,4 @@
--- Sets of levels among 256, as the bits of two numbers; only the counting of points speaks of them.
+-- Private: sets of levels among 256, as the bits of two numbers; only the counting of points speaks of them.
 use Rattle.std.specs.Prelude.{ℕ, zero, suc, ◌+◌, Bool, cond, List, [], ◌∷◌, map}
 use Rattle.std.specs.Simd.Lanes.{mask_l}
 use Rattle.blic_model.specs.declared.level_set.LevelSet.{LevelSet}

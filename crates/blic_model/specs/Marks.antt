@@ -1,4 +1,4 @@
--- A table with a mark for each variable, which only the test of a formula's parts uses.
+-- Private: a table with a mark for each variable, which only the test of a formula's parts uses.
 use Rattle.std.specs.Prelude.{◌≡◌, ℕ, Bool, false, List, slice_index_or}
 use Rattle.blic_model.specs.declared.prefix.Bound.{Bound}
 use Rattle.blic_model.specs.Limits.{is_bound}

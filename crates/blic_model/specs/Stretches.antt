@@ -1,4 +1,4 @@
--- Where lists of levels stand in one list.
+-- Private: where lists of levels stand in one list.
 use Rattle.std.specs.Prelude.{◌≡◌, ℕ, ◌<◌, ◌≤◌, List, ◌++◌, length, map, take, slice_index_or}
 use Rattle.blic_model.specs.declared.level_lists.Stretch.{Stretch}
 use Rattle.blic_model.specs.LevelLists.{stretch, merged}

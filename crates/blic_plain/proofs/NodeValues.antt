@@ -15,6 +15,7 @@ use Rattle.blic_model.proofs.Entries.{entries, get-entries, value-step}
 use Rattle.blic_model.proofs.Degrees.{linearize-def}
 use Rattle.blic_model.proofs.Reduced.{part_more, part_all}
 use Rattle.blic_model.proofs.Shaped.{ordered_of}
+use Rattle.blic_claims.proofs.Pairs.{IsPair, pair_below}
 use Rattle.blic_plain.specs.Products.{part_products, combined_step, value_products_step, value_products, combined_products, products}
 
 all_ordered : (nodes : List Node) (levels : ℕ) → IsShaped nodes levels → AllOrdered nodes
@@ -100,14 +101,6 @@ part_before nodes levels k i x s u w p l ex eu ew =
     back : i - 1 + 1 ≡ i
     back = omega arith
 
--- and its products
-pub products_before : (c i : ℕ) → 0 < i → 2 * part_products c (i - 1) + 2 ≡ part_products c i
-products_before c zero p = absurd (omega arith)
-products_before c (suc i) p = ap (λ m. 2 * part_products c m + 2) back
-  where
-    back : suc i - 1 ≡ i
-    back = omega arith
-
 -- the or of the operands
 pub combined_or : (nodes : List Node) (levels k a b : ℕ) (s : Point) (u w z : ℕ) → Or a b ≡ node_at nodes k → u ≡ value nodes levels a s
     → w ≡ value nodes levels b s → z ≡ sub (add u w) (mul u w) → z ≡ combined (node_at nodes k) (value nodes levels) s
@@ -121,12 +114,8 @@ binary_of n (inr (a, b, e)) = ap is_binary e
 
 -- those of the operands' values, and of a part with some levels made linear, are fewer than those for a claim
 
-abbrev IsPair : Node → ℕ → ℕ → Type 0
-IsPair n a b = (n ≡ And a b) ⊎ (n ≡ Or a b)
-
 pub operands_below : (nodes : List Node) (levels k : ℕ) (n : Node) (a b : ℕ) → IsShaped nodes levels → n ≡ node_at nodes k → IsPair n a b → (a < k) × (b < k)
-operands_below nodes levels k n a b h e (inl q) = children nodes levels k (And a b) h (sym q ∙ e)
-operands_below nodes levels k n a b h e (inr q) = children nodes levels k (Or a b) h (sym q ∙ e)
+operands_below nodes levels k n a b h e pair = pair_below nodes levels k a b h (subst (λ m. IsPair m a b) e pair)
 
 products-def : (nodes : List Node) (levels k : ℕ) → products nodes levels k ≡ 3 * value_products nodes levels k + 2
 unfolding products

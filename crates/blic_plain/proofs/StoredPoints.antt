@@ -1,7 +1,7 @@
 -- The element of a stored point at a level.
-use Rattle.std.proofs.Common.{arith, ℕ, zero, suc, ◌≡◌, ◌+◌, ◌<◌, inl, inr, refl, sym, ◌∙◌, ap, List, [], ◌∷◌, length, get_or, eqb}
+use Rattle.std.proofs.Common.{arith, ℕ, zero, suc, ◌≡◌, ◌<◌, refl, sym, ◌∙◌, List, [], ◌∷◌, length, get_or, eqb}
 use Rattle.std.specs.Prelude.{map}
-use Rattle.std.proofs.lemmas.Bool.{cases_eq, eq-eqb, ne_eqb, cond-true, cond-false}
+use Rattle.std.proofs.lemmas.Bool.{eq-eqb, ne_eqb, cond-true, cond-false}
 use Rattle.blic_model.specs.Circuit.{OrderedCircuit, below, free}
 use Rattle.blic_claims.specs.Points.{PointTable, coordinate, point_of, stored_point}
 use Rattle.blic_claims.proofs.BelowSums.{length_map_below, entry_map_below}
@@ -41,6 +41,3 @@ pub stored_elsewhere : (c : OrderedCircuit) (p : PointTable) (k a y : ℕ)
 unfolding stored_point
 stored_elsewhere c p k a y h =
     let xs = free c.nodes (length c.order) k in sym (point_elsewhere xs (map (coordinate p k a) (below (length xs))) y h)
-
-pub none_more : (xs : List ℕ) (n y : ℕ) → IsNoneOf xs n y → (get_or xs n 0 ≡ y → ⊥) → IsNoneOf xs (n + 1) y
-none_more xs n y h d i l e = elim (cases_eq i n) [ inl q ↦ d (ap (λ m. get_or xs m 0) (sym q) ∙ e) | inr ne ↦ h i (omega arith) e ]

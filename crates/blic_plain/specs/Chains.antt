@@ -1,4 +1,4 @@
--- The points that the recursion goes through.
+-- Private: the points that the recursion goes through.
 use Rattle.std.specs.Prelude.{◌<◌, length}
 use Rattle.blic_model.specs.Circuit.{OrderedCircuit}
 use Rattle.blic_model.specs.Value.{Point, put}

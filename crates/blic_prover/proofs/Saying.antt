@@ -18,7 +18,7 @@ use Rattle.blic_model.proofs.Put.{put_here, put_other}
 use Rattle.blic_claims.specs.Claims.{Claim, claims_from, claims_on, claim_at, no_claim, node_point, point_at, zero_point}
 use Rattle.blic_claims.specs.Held.{AreHeld, HasPoints}
 use Rattle.blic_claims.specs.Honest.{honest_answer, honest_replies, operands}
-use Rattle.blic_claims.specs.Points.{PointTable, coordinate, ArePointsOf, stored_point, HandsDown}
+use Rattle.blic_claims.specs.Points.{PointTable, coordinate, ArePointsOf, stored_point, stored_poly, HandsDown}
 use Rattle.blic_claims.specs.Turns.{ForPolys, ForValues, Polys, Values, turns, transcript, no_reply, sum_above, replies_above, draws_above, polys_number, values_number, is_polys}
 use Rattle.blic_claims.proofs.Added.{agree_above, same_answer}
 use Rattle.blic_claims.proofs.Agreement.{claims_agree}
@@ -31,12 +31,13 @@ use Rattle.blic_claims.proofs.HeldKept.{held_kept}
 use Rattle.blic_claims.proofs.HeldNodes.{held_binary}
 use Rattle.blic_claims.proofs.KeptPoints.{stored_is, free_contains}
 use Rattle.blic_claims.proofs.Pairs.{binary_pair, pair_ap, pair_below, pair_free}
+use Rattle.blic_claims.proofs.Settling.{replies_more, reply_at_turn, length-replies, polys_settled, values_settled}
 use Rattle.blic_claims.proofs.SomeClaim.{some_claim_law}
 use Rattle.blic_claims.proofs.Starting.{start_next}
 use Rattle.blic_claims.proofs.Turns.{polys_turn, values_turn}
 use Rattle.blic_prover.specs.Standing.{honest_talk, own_values, ArePlaced, IsReady, IsDrawing, IsWalking}
 use Rattle.blic_prover.proofs.Passing.{placed}
-use Rattle.blic_prover.proofs.Settling.{replies_more, reply_at_turn, reply_is, length-replies, settled_reply, polys_settled, values_settled}
+use Rattle.blic_prover.proofs.Settling.{reply_is, settled_reply}
 
 -- a polynomial depends on the node's free levels alone
 poly_depends : (nodes : List Node) (levels : ℕ) → AllOrdered nodes → (k i : ℕ) (s r : Point) → ((y : ℕ) → is_free nodes k y ≡ true → s y ≡ r y)
@@ -64,14 +65,14 @@ own_point_is c draws t k i d p shaped ld h y e =
 polys_are : (c : OrderedCircuit) (draws : List ℕ) (t k i : ℕ) (p : PointTable) → IsShaped c.nodes (length c.order)
     → HasPoints c.nodes (length c.order) (honest_talk c draws t) k (i + 1) (coordinate p)
     → map (λ cl. poly c.nodes (length c.order) k i (point_at c.nodes (length c.order) (honest_talk c draws t) k cl (i + 1))) (claims_on c.nodes (length c.order) (honest_talk c draws t) k)
-    ≡ map (λ d. poly c.nodes (length c.order) k i (stored_point c p k d)) (below (claims c.nodes k))
+    ≡ map (stored_poly c p k i) (below (claims c.nodes k))
 polys_are c draws t k i p shaped h =
     let nodes = c.nodes in
     let levels = length c.order in
     let T = honest_talk c draws t in
     let cs = claims_on nodes levels T k in
     let f : Claim → Quadratic = λ cl. poly nodes levels k i (point_at nodes levels T k cl (i + 1)) in
-    let g : ℕ → Quadratic = λ d. poly nodes levels k i (stored_point c p k d) in
+    let g : ℕ → Quadratic = stored_poly c p k i in
     let none : Quadratic = record { c0 = 0; c1 = 0; c2 = 0 } in
     let n = length-claims_on nodes levels T k in
     let m : length (map f cs) ≡ length cs = length-map cs f in
@@ -97,7 +98,7 @@ one_more : (c : OrderedCircuit) (draws : List ℕ) (t k i : ℕ) (p : PointTable
 one_more c draws t k i p r = (let e : suc i ≡ i + 1 = omega arith in subst (λ z. HasPoints c.nodes (length c.order) (honest_talk c draws t) k z (coordinate p)) e r.own)
 
 pub polys_said : (c : OrderedCircuit) (draws : List ℕ) (t k i : ℕ) (p : PointTable) → IsShaped c.nodes (length c.order) → IsReady c draws t k (suc i) p
-    → Polys (map (λ d. poly c.nodes (length c.order) k i (stored_point c p k d)) (below (claims c.nodes k)))
+    → Polys (map (stored_poly c p k i) (below (claims c.nodes k)))
     ≡ get_or (honest_replies c.nodes (length c.order) draws (suc t)) t no_reply
 polys_said c draws t k i p shaped r =
     sym (reply_is c draws t (ForPolys k i) (polys_turn_is c draws t k i p r) ∙ ap Polys (polys_are c draws t k i p shaped (one_more c draws t k i p r)))
@@ -110,17 +111,17 @@ polys_given c draws t k i p r =
     let levels = length c.order in
     let b = honest_answer nodes levels in
     let rs = honest_replies nodes levels draws t in
-    let reply = reply_at_turn c draws t in
+    let reply = reply_at_turn nodes levels draws t in
     let T = transcript nodes levels b draws rs in
     let S = transcript nodes levels b draws (rs ++ reply ∷ []) in
     let lk = r.inside in
     let li = r.left in
     let dm = r.draws_made in
     let rc = r.reply_count in
-    let few : replies_above nodes levels k ≤ length rs = omega (arith, length-replies c draws t) in
+    let few : replies_above nodes levels k ≤ length rs = omega (arith, length-replies nodes levels draws t) in
     let up = agree_above nodes levels b draws rs reply k few in
     let cs : claims_on nodes levels T k ≡ claims_on nodes levels S k = claims_agree nodes levels T S (same_answer nodes levels b draws rs reply) k up (omega arith) in
-    let back = sym (replies_more c draws t) in
+    let back = sym (replies_more nodes levels draws t) in
     record {
       inside = r.inside;
       binary = r.binary;
@@ -187,7 +188,7 @@ values_given c draws t k p q shaped ep hd r =
     let levels = length c.order in
     let answer = honest_answer nodes levels in
     let rs = honest_replies nodes levels draws t in
-    let reply = reply_at_turn c draws t in
+    let reply = reply_at_turn nodes levels draws t in
     let T = transcript nodes levels answer draws rs in
     let S = transcript nodes levels answer draws (rs ++ reply ∷ []) in
     let lk = r.inside in
@@ -199,9 +200,9 @@ values_given c draws t k p q shaped ep hd r =
     let lower = pair_below nodes levels k a b shaped h in
     let la = lower.0 in
     let lb = lower.1 in
-    let few : replies_above nodes levels k ≤ length rs = omega (arith, length-replies c draws t) in
+    let few : replies_above nodes levels k ≤ length rs = omega (arith, length-replies nodes levels draws t) in
     let up = agree_above nodes levels answer draws rs reply k few in
-    let back = sym (replies_more c draws t) in
+    let back = sym (replies_more nodes levels draws t) in
     let cp : Claim = record { point = node_point nodes levels S k; value = (S.values k).0 } in
     let cq : Claim = record { point = node_point nodes levels S k; value = (S.values k).1 } in
     let handed : (j : ℕ) → hands nodes levels S k j ≡ two cp cq (eqb a j) (eqb b j) = λ j. pair_ap (λ m. claims_from nodes levels S k m (claims_on nodes levels S k) j) _ (node_at nodes k) a b refl refl h in

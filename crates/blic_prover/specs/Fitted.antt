@@ -26,7 +26,7 @@ StageFits c points Finished = Unit {0}
 StageFits c points Over = Unit {0}
 
 -- what holds of a prover's parts: there is room for `room` polynomials
-pub record IsFitted (c : OrderedCircuit) (layout : Places) (points : PointTable) (room : ℕ) (count : ℕ) (stage : Stage) : Type 0 where
+pub record ProverFits (c : OrderedCircuit) (layout : Places) (points : PointTable) (room : ℕ) (count : ℕ) (stage : Stage) : Type 0 where
   pub laid_out : layout ≡ layout_of c
   pub same_rows : ArePointsOf points c
   pub most : HasMostClaims c room

@@ -1,8 +1,7 @@
 -- What an honest prover answers to the asks of one session.
 use Rattle.std.specs.Prelude.{ℕ, suc, Bool, true, false, cond, not, ◌==◌, ◌&&◌, List, [], ◌∷◌, ◌++◌, slice_index_or, length, fold, bytes_eq}
 use Rattle.blic_model.specs.Circuit.{OrderedCircuit}
-use Rattle.blic_claims.specs.Turns.{Reply, turns, no_reply, wants_draw_after}
-use Rattle.blic_claims.specs.Turns.{Polys as PolysReply, Values as ValuesReply}
+use Rattle.blic_claims.specs.Turns.{turns, no_reply, reply_by, wants_draw_after}
 use Rattle.blic_claims.specs.Honest.{honest_answer, honest_replies}
 use Rattle.blic_messages.specs.Replies.{Said, Answer, Polys, Values}
 use Rattle.blic_messages.specs.declared.ask.Hello.{Hello as HelloOf}
@@ -27,16 +26,11 @@ pub data Progress : Type 0 where
 abbrev pub same_hello : HelloOf → HelloOf → Bool
 same_hello g h = (g.wire == h.wire) && (g.circuit == h.circuit) && (g.order == h.order) && bytes_eq g.digest h.digest
 
--- a reply after the answer, as it is said
-abbrev pub said_reply : Reply → Said
-said_reply (PolysReply ps) = Polys ps
-said_reply (ValuesReply u w) = Values u w
-
 -- reply t after the answer, where the ask is the one that stands there: the honest reply under the draws
 abbrev pub reply_at : OrderedCircuit → ℕ → List ℕ → Bool → Move
 reply_at c t draws stands =
     cond (t == length (turns c.nodes (length c.order))) NothingLeft
-    (cond stands (Replied (said_reply (slice_index_or (honest_replies c.nodes (length c.order) draws (suc t)) t no_reply))) OutOfTurn)
+    (cond stands (Replied (reply_by Polys Values (slice_index_or (honest_replies c.nodes (length c.order) draws (suc t)) t no_reply))) OutOfTurn)
 
 -- the answer to an ask after some progress
 abbrev pub move_at : OrderedCircuit → HelloOf → Progress → Ask → Move

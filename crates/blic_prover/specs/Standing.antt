@@ -74,27 +74,27 @@ pub record IsWalking (c : OrderedCircuit) (draws : List ℕ) (t k : ℕ) (points
   pub wants_go : WantsGo c t
   pub below : ArePlaced c (honest_talk c draws t) k k points
 
-abbrev pub StandsAt : Proving → Stage → Progress → Type 0
-StandsAt p Fresh Waiting = Unit {0}
-StandsAt p Fresh (Running t draws) = ⊥
-StandsAt p Fresh Ended = ⊥
-StandsAt p (Going k) Waiting = ⊥
-StandsAt p (Going k) (Running t draws) =
+abbrev pub ServesAt : Proving → Stage → Progress → Type 0
+ServesAt p Fresh Waiting = Unit {0}
+ServesAt p Fresh (Running t draws) = ⊥
+ServesAt p Fresh Ended = ⊥
+ServesAt p (Going k) Waiting = ⊥
+ServesAt p (Going k) (Running t draws) =
     IsReady p.circuit draws t k (length (free p.circuit.nodes (length p.circuit.order) k)) p.points × WantsGo p.circuit t
-StandsAt p (Going k) Ended = ⊥
-StandsAt p (Drawing k i) Waiting = ⊥
-StandsAt p (Drawing k i) (Running t draws) = IsDrawing p.circuit draws t k i p.points
-StandsAt p (Drawing k i) Ended = ⊥
-StandsAt p Finished Waiting = ⊥
-StandsAt p Finished (Running t draws) = t ≡ length (turns p.circuit.nodes (length p.circuit.order))
-StandsAt p Finished Ended = ⊥
-StandsAt p Over Waiting = ⊥
-StandsAt p Over (Running t draws) = ⊥
-StandsAt p Over Ended = Unit {0}
+ServesAt p (Going k) Ended = ⊥
+ServesAt p (Drawing k i) Waiting = ⊥
+ServesAt p (Drawing k i) (Running t draws) = IsDrawing p.circuit draws t k i p.points
+ServesAt p (Drawing k i) Ended = ⊥
+ServesAt p Finished Waiting = ⊥
+ServesAt p Finished (Running t draws) = t ≡ length (turns p.circuit.nodes (length p.circuit.order))
+ServesAt p Finished Ended = ⊥
+ServesAt p Over Waiting = ⊥
+ServesAt p Over (Running t draws) = ⊥
+ServesAt p Over Ended = Unit {0}
 
 -- the prover stands for what was asked
-abbrev pub StandsFor : Proving → List Ask → Type 0
-StandsFor p asks = StandsAt p p.stage (progress p.circuit p.served asks)
+abbrev pub ServesFor : Proving → List Ask → Type 0
+ServesFor p asks = ServesAt p p.stage (progress p.circuit p.served asks)
 
 -- how many products of elements the next reply takes at most, where a claim on each node takes `most`
 abbrev pub products_at : OrderedCircuit → (ℕ → ℕ) → Stage → ℕ

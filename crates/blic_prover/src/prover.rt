@@ -3,15 +3,15 @@ ghost use Rattle.std.specs.Prelude.{◌≡◌, ◌+◌, ◌*◌, ◌<◌, ◌≤
 ghost use Rattle.blic_model.specs.Circuit.{free};
 ghost use Rattle.blic_model.specs.Counts.{claims as claims_of};
 ghost use Rattle.blic_claims.specs.Places.{layout_of};
-ghost use Rattle.blic_claims.specs.Turns.{no_reply, Polys as PolysReply, Values as ValuesReply};
+ghost use Rattle.blic_claims.specs.Turns.{no_reply, reply_by, Polys as PolysReply, Values as ValuesReply};
 ghost use Rattle.blic_claims.specs.Honest.{honest_answer, honest_replies};
-ghost use Rattle.blic_messages.specs.Replies.{said};
+ghost use Rattle.blic_messages.specs.Replies.{said, Polys, Values};
 ghost use Rattle.blic_messages.specs.declared.ask.Ask.{Ask as AskOf};
 ghost use Rattle.blic_messages.specs.declared.ask.Ask.TheVariants.{Hello as AskHello, Go as AskGo, Draw as AskDraw};
 ghost use Rattle.blic_prover.specs.Fitted.{IsAtWork};
-ghost use Rattle.blic_prover.specs.Honest.{Progress, Running, Replied, honest, move_at, progress_with, said_reply, same_hello, changes};
+ghost use Rattle.blic_prover.specs.Honest.{Progress, Running, Replied, honest, move_at, progress_with, same_hello, changes};
 ghost use Rattle.blic_prover.specs.Moves.{move_of, said_by};
-ghost use Rattle.blic_prover.specs.Standing.{GoesOn, IsReady, IsWalking, StandsAt, StandsFor, WantsNoDraw, products_at};
+ghost use Rattle.blic_prover.specs.Standing.{GoesOn, IsReady, IsWalking, ServesAt, ServesFor, WantsNoDraw, products_at};
 
 use crate::room::fill;
 use crate::stage::Stage;
@@ -42,13 +42,13 @@ pub struct Prover<'c> {
 impl<'c> Model for Prover<'c> {
     ghost use Rattle.std.specs.Prelude.{length, take};
     ghost use Rattle.blic_prover.specs.Standing.{Proving};
-    ghost use Rattle.blic_prover.specs.Fitted.{IsFitted};
+    ghost use Rattle.blic_prover.specs.Fitted.{ProverFits};
 
     ghost Value = { Proving };
 
     ghost view = { λ p. record { circuit = p.circuit.now; served = p.served; points = p.points; stage = p.stage; kept = take p.count p.polys.items } };
 
-    ghost invariant = { λ p. IsFitted p.circuit.now p.layout.now p.points (length p.polys.items) p.count p.stage };
+    ghost invariant = { λ p. ProverFits p.circuit.now p.layout.now p.points (length p.polys.items) p.count p.stage };
 }
 
 impl<'c> Prover<'c> {
@@ -63,7 +63,7 @@ impl<'c> Prover<'c> {
         ensures circuit { IfOk result (λ p. p.circuit ≡ circuit.now) }
         ensures served { IfOk result (λ p. p.served ≡ served) }
         ensures fresh { IfOk result (λ p. p.stage ≡ Stage.Fresh) }
-        ensures silent { IfOk result (λ p. StandsFor p []) }
+        ensures silent { IfOk result (λ p. ServesFor p []) }
     {
         let points = Points::new(alloc, circuit, layout)?;
         let none = Poly2 {
@@ -100,8 +100,8 @@ impl<'c> Prover<'c> {
         ensures served { self.new.served ≡ self.old.served }
         ensures answers { A.circuit answers.new ≡ A.circuit answers.old }
         ensures goes_on { GoesOn (A.goes_on answers.new) self.new }
-        ensures honest { (asks : List AskOf) → StandsFor self.old asks → move_of self.new.kept result ≡ honest self.old.circuit self.old.served asks ask.now }
-        ensures stands { (asks : List AskOf) → StandsFor self.old asks → StandsFor self.new (asks ++ ask.now ∷ []) }
+        ensures honest { (asks : List AskOf) → ServesFor self.old asks → move_of self.new.kept result ≡ honest self.old.circuit self.old.served asks ask.now }
+        ensures stands { (asks : List AskOf) → ServesFor self.old asks → ServesFor self.new (asks ++ ask.now ∷ []) }
         ensures unchanged { changes (move_of self.new.kept result) ≡ false → self.new ≡ self.old }
         ensures at_most { steps.new ≤ steps.old + products_at self.old.circuit (A.most answers.old) self.old.stage }
         ensures at_least { steps.old ≤ steps.new }
@@ -131,7 +131,7 @@ impl<'c> Prover<'c> {
     /// Begins a new session. All else stays as it was, the polynomials that were given last too.
     pub fn reset(&mut self)
         ensures exact { self.new ≡ record self.old { stage = Stage.Fresh } }
-        ensures silent { StandsFor self.new [] }
+        ensures silent { ServesFor self.new [] }
     {
         self.stage = Stage::Fresh;
     }
@@ -143,8 +143,8 @@ impl<'c> Prover<'c> {
         ensures served { self.new.served ≡ self.old.served }
         ensures answers { A.circuit answers.new ≡ A.circuit answers.old }
         ensures goes_on { GoesOn (A.goes_on answers.new) self.new }
-        ensures honest { (p : Progress) → StandsAt self.old self.old.stage p → move_of self.new.kept result ≡ move_at self.old.circuit self.old.served p (AskHello asked.now) }
-        ensures stands { (p : Progress) → StandsAt self.old self.old.stage p → StandsAt self.new self.new.stage (progress_with p (AskHello asked.now) (move_of self.new.kept result)) }
+        ensures honest { (p : Progress) → ServesAt self.old self.old.stage p → move_of self.new.kept result ≡ move_at self.old.circuit self.old.served p (AskHello asked.now) }
+        ensures stands { (p : Progress) → ServesAt self.old self.old.stage p → ServesAt self.new self.new.stage (progress_with p (AskHello asked.now) (move_of self.new.kept result)) }
         ensures unchanged { changes (move_of self.new.kept result) ≡ false → self.new ≡ self.old }
     {
         match self.stage {
@@ -170,8 +170,8 @@ impl<'c> Prover<'c> {
         ensures served { self.new.served ≡ self.old.served }
         ensures answers { A.circuit answers.new ≡ A.circuit answers.old }
         ensures goes_on { GoesOn (A.goes_on answers.new) self.new }
-        ensures honest { (p : Progress) → StandsAt self.old self.old.stage p → move_of self.new.kept result ≡ move_at self.old.circuit self.old.served p AskGo }
-        ensures stands { (p : Progress) → StandsAt self.old self.old.stage p → StandsAt self.new self.new.stage (progress_with p AskGo (move_of self.new.kept result)) }
+        ensures honest { (p : Progress) → ServesAt self.old self.old.stage p → move_of self.new.kept result ≡ move_at self.old.circuit self.old.served p AskGo }
+        ensures stands { (p : Progress) → ServesAt self.old self.old.stage p → ServesAt self.new self.new.stage (progress_with p AskGo (move_of self.new.kept result)) }
         ensures unchanged { changes (move_of self.new.kept result) ≡ false → self.new ≡ self.old }
         ensures at_most { steps.new ≤ steps.old + products_at self.old.circuit (A.most answers.old) self.old.stage }
         ensures at_least { steps.old ≤ steps.new }
@@ -194,8 +194,8 @@ impl<'c> Prover<'c> {
         ensures served { self.new.served ≡ self.old.served }
         ensures answers { A.circuit answers.new ≡ A.circuit answers.old }
         ensures goes_on { GoesOn (A.goes_on answers.new) self.new }
-        ensures honest { (p : Progress) → StandsAt self.old self.old.stage p → move_of self.new.kept result ≡ move_at self.old.circuit self.old.served p (AskDraw r) }
-        ensures stands { (p : Progress) → StandsAt self.old self.old.stage p → StandsAt self.new self.new.stage (progress_with p (AskDraw r) (move_of self.new.kept result)) }
+        ensures honest { (p : Progress) → ServesAt self.old self.old.stage p → move_of self.new.kept result ≡ move_at self.old.circuit self.old.served p (AskDraw r) }
+        ensures stands { (p : Progress) → ServesAt self.old self.old.stage p → ServesAt self.new self.new.stage (progress_with p (AskDraw r) (move_of self.new.kept result)) }
         ensures unchanged { changes (move_of self.new.kept result) ≡ false → self.new ≡ self.old }
         ensures at_most { steps.new ≤ steps.old + products_at self.old.circuit (A.most answers.old) self.old.stage }
         ensures at_least { steps.old ≤ steps.new }
@@ -218,7 +218,7 @@ impl<'c> Prover<'c> {
         ensures served { self.new.served ≡ self.old.served }
         ensures answers { A.circuit answers.new ≡ A.circuit answers.old }
         ensures answer { result ≡ honest_answer self.old.circuit.nodes (length self.old.circuit.order) }
-        ensures stands { StandsAt self.new self.new.stage (Running 0 []) }
+        ensures stands { ServesAt self.new self.new.stage (Running 0 []) }
     {
         self.circuit.is_within_limits();
         let answer = answers.answer();
@@ -244,9 +244,9 @@ impl<'c> Prover<'c> {
         ensures answers { A.circuit answers.new ≡ A.circuit answers.old }
         ensures goes_on { GoesOn (A.goes_on answers.new) self.new }
         ensures replied { changes (move_of self.new.kept result) ≡ true }
-        ensures honest { (draws : List ℕ) (t : ℕ) → IsReady self.old.circuit draws t node left self.old.points → move_of self.new.kept result ≡ Replied (said_reply
+        ensures honest { (draws : List ℕ) (t : ℕ) → IsReady self.old.circuit draws t node left self.old.points → move_of self.new.kept result ≡ Replied (reply_by Polys Values
             (slice_index_or (honest_replies self.old.circuit.nodes (length self.old.circuit.order) draws (suc t)) t no_reply)) }
-        ensures stands { (draws : List ℕ) (t : ℕ) → IsReady self.old.circuit draws t node left self.old.points → StandsAt self.new self.new.stage (Running (suc t) draws) }
+        ensures stands { (draws : List ℕ) (t : ℕ) → IsReady self.old.circuit draws t node left self.old.points → ServesAt self.new self.new.stage (Running (suc t) draws) }
         ensures at_most { steps.new ≤ steps.old + claims_of self.old.circuit.nodes node * A.most answers.old node }
         ensures at_least { steps.old ≤ steps.new }
     {
@@ -279,7 +279,7 @@ impl<'c> Prover<'c> {
         ensures honest { (draws : List ℕ) (t : ℕ) → IsReady self.old.circuit draws t node (suc level) self.old.points
             → PolysReply self.new.kept ≡ slice_index_or (honest_replies self.old.circuit.nodes (length self.old.circuit.order) draws (suc t)) t no_reply }
         ensures stands { (draws : List ℕ) (t : ℕ) → IsReady self.old.circuit draws t node (suc level) self.old.points
-            → StandsAt self.new self.new.stage (Running (suc t) draws) }
+            → ServesAt self.new self.new.stage (Running (suc t) draws) }
         ensures at_most { steps.new ≤ steps.old + claims_of self.old.circuit.nodes node * A.most answers.old node }
         ensures at_least { steps.old ≤ steps.new }
     {
@@ -317,7 +317,7 @@ impl<'c> Prover<'c> {
         ensures honest { (draws : List ℕ) (t : ℕ) → IsReady self.old.circuit draws t node 0 self.old.points
             → ValuesReply result.0 result.1 ≡ slice_index_or (honest_replies self.old.circuit.nodes (length self.old.circuit.order) draws (suc t)) t no_reply }
         ensures stands { (draws : List ℕ) (t : ℕ) → IsReady self.old.circuit draws t node 0 self.old.points
-            → StandsAt self.new self.new.stage (Running (suc t) draws) }
+            → ServesAt self.new self.new.stage (Running (suc t) draws) }
         ensures at_most { steps.new ≤ steps.old + A.most answers.old node }
         ensures at_least { steps.old ≤ steps.new }
     {
@@ -335,7 +335,7 @@ impl<'c> Prover<'c> {
         ensures circuit { self.new.circuit ≡ self.old.circuit }
         ensures undrawn { WantsNoDraw self.new.stage }
         ensures served { self.new.served ≡ self.old.served }
-        ensures stands { (draws : List ℕ) (t : ℕ) → IsWalking self.old.circuit draws t top self.old.points → StandsAt self.new self.new.stage (Running t draws) }
+        ensures stands { (draws : List ℕ) (t : ℕ) → IsWalking self.old.circuit draws t top self.old.points → ServesAt self.new self.new.stage (Running t draws) }
     {
         self.stage = match walk(&mut self.points, self.circuit, self.layout, top) {
             Some(node) => Stage::Going { node },

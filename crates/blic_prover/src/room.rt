@@ -2,8 +2,7 @@
 ghost use Rattle.std.specs.Prelude.{◌≡◌, ◌<◌, ◌≤◌, ◌+◌, ◌*◌, ℕ, IsTrue, length, map, suc, take};
 ghost use Rattle.blic_model.specs.Circuit.{below, free};
 ghost use Rattle.blic_model.specs.Counts.{claims};
-ghost use Rattle.blic_model.specs.Reduction.{poly};
-ghost use Rattle.blic_claims.specs.Points.{ArePointsOf, Draws, PointTable, stored_point};
+ghost use Rattle.blic_claims.specs.Points.{ArePointsOf, Draws, PointTable, stored_poly};
 ghost use Rattle.blic_prover.specs.Fitted.{IsBinaryNode};
 
 use blic_basic::Steps;
@@ -30,9 +29,7 @@ pub(crate) fn fill<A: Answers, L: Ledger>(
     requires room { count ≤ length room.old }
     ensures circuit { A.circuit answers.new ≡ A.circuit answers.old }
     ensures long { length room.new ≡ length room.old }
-    ensures filled { take count room.new ≡ map
-        (λ k. poly (A.circuit answers.old).nodes (length (A.circuit answers.old).order) node j (stored_point (A.circuit answers.old) points.now node k))
-        (below (claims (A.circuit answers.old).nodes node)) }
+    ensures filled { take count room.new ≡ map (stored_poly (A.circuit answers.old) points.now node j) (below (claims (A.circuit answers.old).nodes node)) }
     ensures goes_on { (r : ℕ) (next : PointTable) → next.rows ≡ points.now.rows → Draws points.now node j r next → A.goes_on answers.new next node j }
     ensures at_most { steps.new ≤ steps.old + count * A.most answers.old node }
     ensures at_least { steps.old ≤ steps.new }

@@ -13,10 +13,9 @@ use Rattle.blic_claims.specs.Claims.{Transcript, claims_on}
 use Rattle.blic_claims.specs.Turns.{Reply, Fits, turns, transcript, replies_above, values_number, is_polys, wants_draw_after}
 use Rattle.blic_claims.proofs.Turns.{above, above-own, above_step, sum_above_is, values_turn, values_below}
 use Rattle.blic_verifier.specs.Acceptance.{Check, checks, fails, Passes}
-use Rattle.blic_verifier.specs.Verdict.{fault_upto, judged, place_of}
+use Rattle.blic_verifier.specs.Verdict.{Draw, Go, Done, Rejected, fault_upto, judged, place_of}
 use Rattle.blic_verifier.specs.VerdictLaws.{DoneIsAcceptance}
 use Rattle.blic_verifier.specs.Walking.{conditions, IsWalking}
-use Rattle.blic_verifier.specs.declared.next.Next.TheVariants.{Draw, Go, Done, Rejected}
 use Rattle.blic_verifier.proofs.Finding.{filter_parts_upto}
 use Rattle.blic_verifier.proofs.ShownKept.{is_shown}
 use Rattle.blic_verifier.proofs.Shown.{shown_all}

@@ -1,13 +1,12 @@
 -- A walk past a binary node, once its claims have met.
-use Rattle.std.proofs.Common.{arith, ℕ, suc, ◌≡◌, ◌+◌, ◌<◌, refl, sym, ◌∙◌, ap, inl, inr, List, [], ◌∷◌, ◌++◌, length, get_or, set, Bool, true, cond, eqb, get_or-set_same, get_or-set_other}
+use Rattle.std.proofs.Common.{arith, ℕ, suc, ◌≡◌, ◌+◌, ◌<◌, sym, ◌∙◌, ap, inl, inr, List, [], ◌∷◌, ◌++◌, length, get_or, set, Bool, true, cond, eqb, get_or-set_same, get_or-set_other}
 use Rattle.std.specs.Prelude.{sum_by}
 use Rattle.std.proofs.Math.ListN.{length-set}
 use Rattle.std.proofs.lemmas.Bool.{cases_eq, cases_lt}
 use Rattle.std.proofs.lemmas.List.{get_or_push}
 use Rattle.blic_model.specs.declared.node.Node.{Node}
-use Rattle.blic_model.specs.declared.node.Node.TheVariants.{Const, Var, Not, Fix, And, Or}
 use Rattle.blic_model.specs.Circuit.{OrderedCircuit, node_at, below, is_free, free}
-use Rattle.blic_model.specs.Counts.{is_binary, claims}
+use Rattle.blic_model.specs.Counts.{claims}
 use Rattle.blic_model.specs.Shape.{IsShaped}
 use Rattle.blic_claims.specs.Claims.{Transcript, claims_on, claim_at, node_point, zero_point, point_at}
 use Rattle.blic_claims.specs.Places.{given, layout_of}
@@ -19,7 +18,7 @@ use Rattle.blic_verifier.specs.Acceptance.{node_checks, binary_checks}
 use Rattle.blic_claims.specs.Held.{AreHeld}
 use Rattle.blic_verifier.specs.Standing.{IsReady}
 use Rattle.blic_verifier.specs.Walking.{conditions}
-use Rattle.blic_verifier.specs.Holding.{value_in, operands_of, joined, HasMet, WalksTo}
+use Rattle.blic_verifier.specs.Holding.{value_in, joined, HasMet, WalksTo}
 use Rattle.blic_claims.proofs.HeldKept.{held_kept}
 use Rattle.blic_claims.proofs.Added.{agree_above, same_answer}
 use Rattle.blic_verifier.proofs.ValuesReply.{values_fine}
@@ -28,14 +27,6 @@ use Rattle.blic_claims.proofs.KeptPoints.{stored_is, free_contains}
 use Rattle.blic_claims.proofs.HeldNodes.{held_binary}
 use Rattle.blic_verifier.proofs.Passing.{value_place}
 use Rattle.blic_claims.proofs.Pairs.{IsPair, pair_below, pair_room, behind}
-
-pub pair_of : (m : Node) → is_binary m ≡ true → IsPair m (operands_of m).0 (operands_of m).1
-pair_of (Const b) e = absurd (cc e)
-pair_of (Var x) e = absurd (cc e)
-pair_of (Not a) e = absurd (cc e)
-pair_of (Fix x b a) e = absurd (cc e)
-pair_of (And a b) e = inl refl
-pair_of (Or a b) e = inr refl
 
 -- different claims have different places
 pub places_differ : (nodes : List Node) (a d b e : ℕ) → d < claims nodes a → e < claims nodes b → (a ≡ b → d ≡ e → ⊥)

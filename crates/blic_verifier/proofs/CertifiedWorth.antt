@@ -1,15 +1,14 @@
 -- A conversation that leads to acceptance: its talk is accepted, and shows what the answer is worth.
-use Rattle.std.proofs.Common.{arith, ℕ, zero, suc, ◌≡◌, ◌+◌, ◌<◌, ◌≤◌, refl, sym, ◌∙◌, ap, subst, ◌⊎◌, inl, inr, List, [], ◌∷◌, ◌++◌, length, get_or, take, Bool, true, false, cond, eqb}
+use Rattle.std.proofs.Common.{arith, ℕ, zero, suc, ◌≡◌, ◌+◌, ◌<◌, ◌≤◌, refl, sym, ◌∙◌, ap, subst, ◌⊎◌, inl, inr, List, [], ◌∷◌, ◌++◌, length, get_or, take, Bool, true, false, cond}
 use Rattle.std.specs.Prelude.{IfSome, Option, Some, None, filter, flat_map, reverse, sum_by}
 use Rattle.std.specs.List.{AllZip}
 use Rattle.std.proofs.lemmas.Bool.{cases_eq, cases_Bool, eq-eqb, ne_eqb, cond-true, cond-false}
 use Rattle.std.proofs.lemmas.List.{length_push, length-append, take_all}
-use Rattle.std.proofs.lemmas.List.Elements.{All-append, All-cons, All-nil, All-head, All-tail, filter-append}
+use Rattle.std.proofs.lemmas.List.Elements.{All-head, All-tail, filter-append}
 use mathlib.Core.Path.{fun_ext}
 use Rattle.blic_field.specs.Field.{modulus}
 use Rattle.blic_model.specs.declared.node.Node.{Node}
 use Rattle.blic_model.specs.Circuit.{OrderedCircuit, below}
-use Rattle.blic_model.specs.Shape.{IsShaped}
 use Rattle.blic_model.specs.Counts.{claims, draws as draw_count}
 use Rattle.blic_messages.specs.Replies.{Said, Answer, Polys, Values, Refused}
 use Rattle.blic_messages.specs.Reading.{IsReply}
@@ -18,22 +17,20 @@ use Rattle.blic_claims.specs.Turns.{Polys as PolysReply, Values as ValuesReply}
 use Rattle.blic_claims.proofs.Rows.{sum_more}
 use Rattle.blic_claims.proofs.Turns.{reverse_below}
 use Rattle.blic_verifier.specs.Acceptance.{Check}
-use Rattle.blic_verifier.specs.Accepting.{ShowsIn}
 use Rattle.blic_verifier.specs.Certified.{AreReplies, CertifiedIsWorth}
-use Rattle.blic_verifier.specs.SoundnessLaws.{ReplyHasElements, AreElements}
-use Rattle.blic_verifier.specs.Verdict.{Talk, Silent, Talked, fault_upto, judged, judged_at, verdict, next_after, with_reply, with_draw, place_of, told_count, IsAcceptedAs}
+use Rattle.blic_verifier.specs.SoundnessLaws.{ReplyHasElements, AreElements, TalkHasElements}
+use Rattle.blic_verifier.specs.Verdict.{Verdict, Draw, Go, Done, Rejected, WrongKind, WrongCount, Talk, Silent, Talked, fault_upto, judged, judged_at, verdict, next_after, with_reply, with_draw, place_of, told_count, IsAcceptedAs}
 use Rattle.blic_verifier.specs.Conversation.{Instance, Position, Awaits, Ended, go_on, read_on, position_after, beginning}
 use Rattle.blic_verifier.specs.declared.ending.Ending.TheVariants.{Certified, ServerRefused, NotFrame}
 use Rattle.blic_verifier.specs.declared.ending.Ending.TheVariants.{Rejected as RejectedEnd, WrongKind as WrongKindEnd, WrongCount as WrongCountEnd}
 use Rattle.blic_verifier.specs.declared.place.Place.{Place}
-use Rattle.blic_verifier.specs.declared.next.Next.{Next}
-use Rattle.blic_verifier.specs.declared.next.Next.TheVariants.{Draw, Go, Done, Rejected, WrongKind, WrongCount, Over}
 use Rattle.blic_verifier.proofs.Accepting.{passes_from}
 use Rattle.blic_verifier.proofs.FaultKept.{draws_before, draws_of_node}
 use Rattle.blic_verifier.proofs.Fitting.{fits_more}
-use Rattle.blic_verifier.proofs.Judging.{judged_fine, judged_fault}
+use Rattle.blic_verifier.proofs.Judging.{what_stands, judged_fine, judged_fault}
+use Rattle.blic_verifier.proofs.TalkElements.{no_elements, draw_more, reply_more}
 use Rattle.blic_verifier.proofs.TurnPlaces.{more_turns}
-use Rattle.blic_verifier.proofs.Worth.{shows}
+use Rattle.blic_verifier.proofs.Worth.{worth}
 
 -- ---- counts of draws
 
@@ -84,35 +81,24 @@ abbrev pub IsFitTalk : OrderedCircuit → ℕ → Talk → Type 0
 IsFitTalk c more Silent = Unit {0}
 IsFitTalk c more (Talked answer draws replies) = IsFit c more draws replies
 
--- the draws and the replies of a talk are of elements
-abbrev TalkHasElements : Talk → Type 0
-TalkHasElements Silent = Unit {0}
-TalkHasElements (Talked answer draws replies) = AreElements draws replies
-
 -- what holds of a talk to which a reply was added, by what is said of it
-abbrev Holds : OrderedCircuit → Talk → Next → Type 0
+abbrev Holds : OrderedCircuit → Talk → Verdict → Type 0
 Holds c t Draw = IsFitTalk c 1 t
 Holds c t Go = IsFitTalk c 0 t
 Holds c t (Done b) = IsAcceptedAs c b t × TalkHasElements t
 Holds c t (Rejected place) = Unit {0}
 Holds c t (WrongKind turn) = Unit {0}
 Holds c t (WrongCount turn want got) = Unit {0}
-Holds c t Over = ⊥
-
--- what stands after m replies of which none is refused
-abbrev next_of : OrderedCircuit → Bool → ℕ → Next
-next_of c answer m =
-    cond (eqb m (length (turns c.nodes (length c.order)))) (Done answer) (cond (wants_draw_after (turns c.nodes (length c.order)) m) Draw Go)
 
 judged_cases : (c : OrderedCircuit) (answer : Bool) (draws : List ℕ) (replies : List Reply)
     → ((fault_upto c.nodes (length c.order) (transcript c.nodes (length c.order) answer draws replies) (suc (length replies)) ≡ None)
-    × (judged c.nodes (length c.order) answer draws replies ≡ next_of c answer (length replies)))
+    × (judged c.nodes (length c.order) answer draws replies ≡ what_stands c.nodes (length c.order) answer (length replies)))
     ⊎ ((place : Place) × (judged c.nodes (length c.order) answer draws replies ≡ Rejected place))
 judged_cases c answer draws replies = go (fault_upto c.nodes (length c.order) (transcript c.nodes (length c.order) answer draws replies) (suc (length replies))) refl
   where
     go : (o : Option Check) → fault_upto c.nodes (length c.order) (transcript c.nodes (length c.order) answer draws replies) (suc (length replies)) ≡ o
         → ((fault_upto c.nodes (length c.order) (transcript c.nodes (length c.order) answer draws replies) (suc (length replies)) ≡ None)
-        × (judged c.nodes (length c.order) answer draws replies ≡ next_of c answer (length replies)))
+        × (judged c.nodes (length c.order) answer draws replies ≡ what_stands c.nodes (length c.order) answer (length replies)))
         ⊎ ((place : Place) × (judged c.nodes (length c.order) answer draws replies ≡ Rejected place))
     go None e = inl (e, judged_fine c.nodes (length c.order) answer draws replies e)
     go (Some check) e = inr (place_of check, judged_fault c.nodes (length c.order) answer draws replies check e)
@@ -128,7 +114,7 @@ last_is_values nodes levels t e = elim (cases_Bool (is_polys (get_or (turns node
 settle : (c : OrderedCircuit) (answer : Bool) (draws : List ℕ) (replies : List Reply) (t : ℕ) → length replies ≡ suc t → suc t ≤ length (turns c.nodes (length c.order))
     → AllFit c.nodes (length c.order) replies → length draws ≡ draws_before c.nodes (length c.order) t → AreElements draws replies
     → fault_upto c.nodes (length c.order) (transcript c.nodes (length c.order) answer draws replies) (suc (length replies)) ≡ None
-    → Holds c (Talked answer draws replies) (next_of c answer (length replies))
+    → Holds c (Talked answer draws replies) (what_stands c.nodes (length c.order) answer (length replies))
 settle c answer draws replies t n l fits drawn elements sound = elim (cases_eq (length replies) (length (turns c.nodes (length c.order)))) [
   | inl e ↦ subst there (sym (cond-true _ _ _ (eq-eqb (length replies) (length (turns c.nodes (length c.order))) e))) (
     (refl, passes_from c.nodes (length c.order) answer draws replies (all e) (whole e) sound),
@@ -150,7 +136,7 @@ settle c answer draws replies t n l fits drawn elements sound = elim (cases_eq (
   ])
 ]
   where
-    there : Next → Type 0
+    there : Verdict → Type 0
     there next = Holds c (Talked answer draws replies) next
 
     step : {b : Bool} → is_polys (get_or (turns c.nodes (length c.order)) t (ForValues 0)) ≡ b
@@ -189,19 +175,19 @@ answer_holds c answer = elim (judged_cases c answer [] []) [
         refl,
         passes_from c.nodes (length c.order) answer [] [] (all e) (subst (λ z. AllZip (Fits c.nodes) z []) (none (turns c.nodes (length c.order)) e) tt) s.0,
       ),
-      (All-nil (λ r. r < modulus), All-nil ReplyHasElements),
+      no_elements,
     )
     | inr ne ↦ subst there (sym (cond-false _ _ _ (ne_eqb 0 (length (turns c.nodes (length c.order))) ne))) (record {
       fitting = tt;
       left = omega arith;
       drawn = omega arith;
-      elements = (All-nil (λ r. r < modulus), All-nil ReplyHasElements);
+      elements = no_elements;
     })
   ])
   | inr s ↦ subst (Holds c (Talked answer [] [])) (sym s.1) tt
 ]
   where
-    there : Next → Type 0
+    there : Verdict → Type 0
     there next = Holds c (Talked answer [] []) next
 
     none : (ts : List Turn) → 0 ≡ length ts → [] ≡ ts
@@ -214,7 +200,7 @@ answer_holds c answer = elim (judged_cases c answer [] []) [
         omega (arith, all_drawn c.nodes (length c.order))
 
 -- a reply at its turn
-at_turn : (c : OrderedCircuit) (t : Talk) (n : ℕ) (u : Turn) (r : Reply) (next : Next) → (Fits c.nodes u r → Holds c t next) → Holds c t (judged_at c.nodes n u r next)
+at_turn : (c : OrderedCircuit) (t : Talk) (n : ℕ) (u : Turn) (r : Reply) (next : Verdict) → (Fits c.nodes u r → Holds c t next) → Holds c t (judged_at c.nodes n u r next)
 at_turn c t n (ForPolys k i) (PolysReply ps) next h = elim (cases_eq (length ps) (claims c.nodes k)) [
   | inl e ↦ subst (Holds c t) (sym (cond-true _ next _ (eq-eqb (length ps) (claims c.nodes k) e))) (h e)
   | inr ne ↦ subst (Holds c t) (sym (cond-false _ next (WrongCount n (claims c.nodes k) (told_count (length ps))) (ne_eqb (length ps) (claims c.nodes k) ne))) tt
@@ -233,7 +219,7 @@ verdict_holds c answer draws replies r fit e =
     judged_holds c answer draws (replies ++ r ∷ []) (length replies) (omega (arith, length_push replies r)) (omega arith)
     (fits_more c.nodes (length c.order) replies (get_or (turns c.nodes (length c.order)) (length replies) (ForValues 0)) r fit.fitting fit.left refl fits)
     (omega arith)
-    (fit.elements.0, All-append ReplyHasElements replies (r ∷ []) fit.elements.1 (All-cons ReplyHasElements r [] e (All-nil ReplyHasElements))))
+    (fit.elements.0, reply_more replies r e fit.elements.1))
 
 said_holds : (c : OrderedCircuit) (t : Talk) (s : Said) → IsFitTalk c 0 t → IsReply s → Holds c (with_reply t s) (next_after c.nodes (length c.order) t s)
 said_holds c Silent (Answer b) fit e = answer_holds c b
@@ -253,7 +239,7 @@ drawn_fits c (Talked answer draws replies) r l fit =
       fitting = fit.fitting;
       left = fit.left;
       drawn = omega (arith, length_push draws r);
-      elements = (All-append (λ x. x < modulus) draws (r ∷ []) fit.elements.0 (All-cons (λ x. x < modulus) r [] l (All-nil (λ x. x < modulus))), fit.elements.1);
+      elements = (draw_more draws r l fit.elements.0, fit.elements.1);
     }
 
 -- ---- the way to acceptance
@@ -268,14 +254,13 @@ Stands c (Ended (WrongCountEnd turn want got) t) = Unit {0}
 Stands c (Ended (ServerRefused r) t) = Unit {0}
 Stands c (Ended NotFrame t) = Unit {0}
 
-onward : (c : OrderedCircuit) (draw : ℕ → ℕ) → ((n : ℕ) → draw n < modulus) → (t : Talk) (n : ℕ) (next : Next) → Holds c t next → Stands c (go_on draw t n next)
+onward : (c : OrderedCircuit) (draw : ℕ → ℕ) → ((n : ℕ) → draw n < modulus) → (t : Talk) (n : ℕ) (next : Verdict) → Holds c t next → Stands c (go_on draw t n next)
 onward c draw below t n Draw holds = drawn_fits c t (draw n) (below n) holds
 onward c draw below t n Go holds = holds
 onward c draw below t n (Done b) holds = holds
 onward c draw below t n (Rejected place) holds = tt
 onward c draw below t n (WrongKind turn) holds = tt
 onward c draw below t n (WrongCount turn want got) holds = tt
-onward c draw below t n Over holds = absurd holds
 
 step : (x : Instance) (draw : ℕ → ℕ) → ((n : ℕ) → draw n < modulus) → (p : Position) (r : Option Said) → IfSome r IsReply → Stands x.circuit p → Stands x.circuit (read_on x draw p r)
 step x draw below (Ended e t) r is stands = stands
@@ -291,12 +276,8 @@ all_stand x draw below [] p all stands = stands
 all_stand x draw below (r ∷ rs) p all stands =
     all_stand x draw below rs (read_on x draw p r) (All-tail (λ s. IfSome s IsReply) r rs all) (step x draw below p r (All-head (λ s. IfSome s IsReply) r rs all) stands)
 
-shown : (c : OrderedCircuit) → IsShaped c.nodes (length c.order) → (b : Bool) (t : Talk) → IsAcceptedAs c b t → TalkHasElements t → ShowsIn c b t
-shown c shaped b Silent accepted elements = accepted
-shown c shaped b (Talked answer draws replies) accepted elements = (accepted.0, shows c shaped answer draws replies elements accepted.1)
-
 -- a conversation that ends with an accepted answer, whoever sent the replies: what was said is accepted, and where the answer is wrong it shows a bad draw
 pub certified_is_worth : CertifiedIsWorth
 certified_is_worth x shaped draw below readings all b talk e =
     let stands = subst (Stands x.circuit) e (all_stand x draw below readings (beginning x) all tt) in
-    (stands.0, shown x.circuit shaped b talk stands.0 stands.1)
+    (stands.0, worth x.circuit shaped b talk stands.0 stands.1)

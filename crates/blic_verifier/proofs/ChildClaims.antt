@@ -1,16 +1,17 @@
 -- What a node hands down is among the claims on its child.
-use Rattle.std.proofs.Common.{arith, ℕ, ◌≡◌, ◌-◌, ◌<◌, refl, sym, subst, ◌⊎◌, inl, inr, List, [], ◌∷◌, length, Bool, cond, eqb}
+use Rattle.std.proofs.Common.{arith, ℕ, ◌≡◌, ◌-◌, ◌<◌, refl, sym, subst, inl, inr, List, [], ◌∷◌, length, Bool, cond, eqb}
 use Rattle.std.specs.Prelude.{Contains}
 use Rattle.std.proofs.lemmas.Bool.{eq-eqb, cond-true}
 use Rattle.std.proofs.lemmas.List.Elements.{Contains-append_left, Contains-append_right}
 use Rattle.blic_model.specs.declared.node.Node.{Node}
-use Rattle.blic_model.specs.declared.node.Node.TheVariants.{Not, Fix, And, Or}
+use Rattle.blic_model.specs.declared.node.Node.TheVariants.{Not, Fix}
 use Rattle.blic_model.specs.Circuit.{node_at, root, below}
 use Rattle.blic_model.specs.Value.{bit}
 use Rattle.blic_claims.specs.Claims.{Transcript, Claim, zero_point, node_point, operand_claims, claims_from, claims_on}
 use Rattle.blic_claims.proofs.Lists.{Contains-below, Contains-flat_map, Contains-map, Contains-head}
 use Rattle.blic_claims.proofs.ClaimCounts.{claims_under}
 use Rattle.blic_claims.proofs.HandedClaims.{handed_by, claims_is}
+use Rattle.blic_claims.proofs.Pairs.{IsPair}
 use Rattle.blic_verifier.proofs.ClaimElements.{negated, fixed}
 
 pub root_claim : (nodes : List Node) (levels : ℕ) (T : Transcript)
@@ -44,21 +45,18 @@ fix_claim nodes levels T k x b a lk la e c h =
     child_claim nodes levels T k a lk la (fixed x b c) (rw (e, if_same a) (Contains-map (fixed x b) (claims_on nodes levels T k) c h))
 
 -- the claims on the operands of a binary node
-abbrev pub AreOperands : List Node → ℕ → ℕ → ℕ → Type 0
-AreOperands nodes k a b = (node_at nodes k ≡ And a b) ⊎ (node_at nodes k ≡ Or a b)
-
-operand_claim : (nodes : List Node) (levels : ℕ) (T : Transcript) (k a b i : ℕ) → k < length nodes → i < k → AreOperands nodes k a b
+operand_claim : (nodes : List Node) (levels : ℕ) (T : Transcript) (k a b i : ℕ) → k < length nodes → i < k → IsPair (node_at nodes k) a b
     → (c : Claim) → Contains (operand_claims a b (node_point nodes levels T k) (T.values k) i) c → Contains (claims_on nodes levels T i) c
 operand_claim nodes levels T k a b i lk l (inl e) c h = child_claim nodes levels T k i lk l c (rw e h)
 operand_claim nodes levels T k a b i lk l (inr e) c h = child_claim nodes levels T k i lk l c (rw e h)
 
-pub first_claim : (nodes : List Node) (levels : ℕ) (T : Transcript) (k a b : ℕ) → k < length nodes → a < k → AreOperands nodes k a b
+pub first_claim : (nodes : List Node) (levels : ℕ) (T : Transcript) (k a b : ℕ) → k < length nodes → a < k → IsPair (node_at nodes k) a b
     → Contains (claims_on nodes levels T a) (record { point = node_point nodes levels T k; value = (T.values k).0 })
 first_claim nodes levels T k a b lk l o =
     let c : Claim = record { point = node_point nodes levels T k; value = (T.values k).0 } in
     operand_claim nodes levels T k a b a lk l o c (rw (if_same a) (Contains-append_left (c ∷ []) _ c (Contains-head c [])))
 
-pub second_claim : (nodes : List Node) (levels : ℕ) (T : Transcript) (k a b : ℕ) → k < length nodes → b < k → AreOperands nodes k a b
+pub second_claim : (nodes : List Node) (levels : ℕ) (T : Transcript) (k a b : ℕ) → k < length nodes → b < k → IsPair (node_at nodes k) a b
     → Contains (claims_on nodes levels T b) (record { point = node_point nodes levels T k; value = (T.values k).1 })
 second_claim nodes levels T k a b lk l o =
     let c : Claim = record { point = node_point nodes levels T k; value = (T.values k).1 } in

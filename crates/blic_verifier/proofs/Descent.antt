@@ -17,12 +17,13 @@ use Rattle.blic_model.proofs.Entries.{value-step}
 use Rattle.blic_claims.specs.Claims.{Transcript, Claim, zero_point, no_claim, node_point, claims_on}
 use Rattle.blic_claims.proofs.Lists.{Contains-below, all_in_map}
 use Rattle.blic_claims.proofs.Drawn.{AllLevelled}
+use Rattle.blic_claims.proofs.Pairs.{IsPair}
 use Rattle.blic_verifier.specs.Acceptance.{leaf_check, binary_checks, node_checks, AllHold}
 use Rattle.blic_verifier.proofs.Roots.{SomeRootIsDrawn}
 use Rattle.blic_verifier.proofs.OfElements.{IsOfElements}
 use Rattle.blic_verifier.proofs.HeldChecks.{Holds, node_passes}
 use Rattle.blic_verifier.proofs.ClaimElements.{ClaimHasElements, claims_elements, negated, fixed}
-use Rattle.blic_verifier.proofs.ChildClaims.{root_claim, not_claim, fix_claim, AreOperands, first_claim, second_claim}
+use Rattle.blic_verifier.proofs.ChildClaims.{root_claim, not_claim, fix_claim, first_claim, second_claim}
 use Rattle.blic_verifier.proofs.LevelChain.{IsTrueOrBad, binary_sound}
 
 pub twice_not : (v : ℕ) → v < modulus → v ≡ sub 1 (sub 1 v)
@@ -64,7 +65,7 @@ sound_binary nodes levels o v T t k lk b both h true_both c (j, l, e) =
     (All-get_or ClaimHasElements (claims_on nodes levels T k) j no_claim l (claims_elements nodes levels T t k)).0)
 
 -- the values sent for the operands of node k are true, or some draw was bad
-operands_true : (nodes : List Node) (levels : ℕ) (T : Transcript) (k a b : ℕ) → k < length nodes → (a < k) × (b < k) → AreOperands nodes k a b
+operands_true : (nodes : List Node) (levels : ℕ) (T : Transcript) (k a b : ℕ) → k < length nodes → (a < k) × (b < k) → IsPair (node_at nodes k) a b
     → ((j : ℕ) → j < k → AllTrue nodes levels T j)
     → SomeRootIsDrawn nodes levels T
     ⊎ (((T.values k).0 ≡ value nodes levels a (node_point nodes levels T k)) × ((T.values k).1 ≡ value nodes levels b (node_point nodes levels T k)))

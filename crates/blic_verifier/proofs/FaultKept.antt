@@ -9,8 +9,8 @@ use Rattle.std.proofs.Math.Seq.{take-append-add}
 use Rattle.blic_model.specs.declared.node.Node.{Node}
 use Rattle.blic_model.specs.Circuit.{node_at, below, free}
 use Rattle.blic_model.specs.Counts.{is_binary}
+use Rattle.blic_model.proofs.ChildEntries.{length_of_below}
 use Rattle.blic_claims.specs.Turns.{ForPolys, ForValues, Reply, node_turns, turns, transcript, draws_above, replies_above, draw_number, polys_number, values_number, no_reply, polys_of, values_of, is_polys}
-use Rattle.blic_claims.proofs.Lists.{length-below}
 use Rattle.blic_claims.proofs.Turns.{above, above-suc, above-own, reverse_below, length-node_turns, binary_turns, sum_above_is, binary_inside}
 use Rattle.blic_verifier.specs.Acceptance.{fails}
 use Rattle.blic_verifier.specs.VerdictLaws.{FaultIsFixed}
@@ -80,7 +80,7 @@ node_count nodes levels j = go (is_binary (node_at nodes j))
     go true =
         ap length (filter-append is_polys (map (ForPolys j) (reverse (below (length (free nodes levels j))))) (ForValues j ∷ []) ∙ append-nil (filter is_polys (map (ForPolys j) (reverse (below (length (free nodes levels j)))))))
         ∙ (ap length (filter_all is_polys (ForPolys j) (reverse (below (length (free nodes levels j)))) (λ c. refl))
-        ∙ (length-map _ (ForPolys j) ∙ (length-reverse _ ∙ length-below _)))
+        ∙ (length-map _ (ForPolys j) ∙ (length-reverse _ ∙ length_of_below _)))
 
 -- so many draws come before the end of node k's first p replies
 polys_before : (nodes : List Node) (levels k p : ℕ) → k < length nodes → is_binary (node_at nodes k) ≡ true → p ≤ length (free nodes levels k)
@@ -89,7 +89,7 @@ unfolding turns
 polys_before nodes levels k p lk b l =
     let n = length (free nodes levels k) in
     let ys : List ℕ = reverse (below n) in
-    let long : length ys ≡ n = length-reverse (below n) ∙ length-below n in
+    let long : length ys ≡ n = length-reverse (below n) ∙ length_of_below n in
     let own = binary_turns nodes levels k b in
     let wide : length (node_turns nodes levels k) ≡ cond (is_binary (node_at nodes k)) (n + 1) 0 = length-node_turns nodes levels k in
     let two : cond (is_binary (node_at nodes k)) (n + 1) 0 ≡ n + 1 = cond-true (is_binary (node_at nodes k)) (n + 1) 0 b in

@@ -5,8 +5,9 @@ use Rattle.std.proofs.lemmas.List.{length-drop, get_or-drop}
 use Rattle.std.proofs.lemmas.List.Elements.{All-head}
 use Rattle.blic_model.specs.declared.node.Node.{Node}
 use Rattle.blic_model.specs.Circuit.{node_at, below, free}
+use Rattle.blic_model.proofs.ChildEntries.{length_of_below, entry_of_below}
 use Rattle.blic_claims.specs.Claims.{Transcript, Claim, no_claim, claims_on}
-use Rattle.blic_claims.proofs.Lists.{Contains-below, Contains-reverse, all_left, all_right, all_in_flat_map, all_in_map, length-below, get_or-below}
+use Rattle.blic_claims.proofs.Lists.{Contains-below, Contains-reverse, all_left, all_right, all_in_flat_map, all_in_map}
 use Rattle.blic_verifier.specs.Acceptance.{value_at, Check, poly_check, ends_check, combine_check, binary_checks, node_checks, checks, AllHold}
 
 abbrev pub Holds : Check → Type 0
@@ -42,8 +43,8 @@ poly_passes nodes levels T k cs both h i j li lj =
 Contains-rest : (n j : ℕ) → suc j < n → Contains (drop 1 (below n)) (suc j)
 Contains-rest n j l = (
   j,
-  omega (arith, length-drop 1 (below n), length-below n),
-  get_or-drop 1 (below n) j (suc j) ∙ (ap (λ z. get_or (below n) z (suc j)) (one j) ∙ get_or-below n (suc j) (suc j) l),
+  omega (arith, length-drop 1 (below n), length_of_below n),
+  get_or-drop 1 (below n) j (suc j) ∙ (ap (λ z. get_or (below n) z (suc j)) (one j) ∙ entry_of_below n (suc j) (suc j) l),
 )
   where
     one : (j : ℕ) → 1 + j ≡ suc j

@@ -1,22 +1,21 @@
 -- Each honest reply fits its turn, and is of elements.
-use Rattle.std.proofs.Common.{arith, ℕ, suc, ◌≡◌, ◌+◌, ◌<◌, refl, sym, subst, List, [], ◌∷◌, ◌++◌, length, get_or}
+use Rattle.std.proofs.Common.{arith, ℕ, suc, ◌+◌, ◌<◌, sym, subst, List, get_or}
 use Rattle.std.specs.Prelude.{All}
 use Rattle.std.proofs.lemmas.List.Elements.{All-map}
 use Rattle.blic_field.specs.Field.{modulus}
 use Rattle.blic_field.specs.Quadratic.{HasElements}
 use Rattle.blic_model.specs.declared.node.Node.{Node}
-use Rattle.blic_model.specs.Circuit.{node_at, table}
+use Rattle.blic_model.specs.Circuit.{node_at}
 use Rattle.blic_model.specs.Reduction.{poly}
-use Rattle.blic_model.proofs.Entries.{get-table, length-table}
 use Rattle.blic_model.proofs.Ordered.{AllOrdered, ordered_all}
 use Rattle.blic_model.proofs.Reduced.{HasElements-poly}
 use Rattle.blic_model.proofs.Shaped.{ordered_of}
 use Rattle.blic_model.proofs.Values.{value_below}
 use Rattle.blic_claims.specs.Claims.{Transcript, Claim, claims_on, node_point, point_at}
 use Rattle.blic_claims.specs.Honest.{honest_answer, honest_at, honest_replies, operands}
-use Rattle.blic_claims.specs.Turns.{Turn, ForPolys, ForValues, Reply, Fits, no_reply, transcript, turns}
+use Rattle.blic_claims.specs.Turns.{Turn, ForPolys, ForValues, Fits, transcript, turns}
 use Rattle.blic_claims.proofs.Drawn.{IsPoint-node_point}
-use Rattle.blic_claims.proofs.HonestReplies.{honest_entry}
+use Rattle.blic_claims.proofs.Settling.{entry_is}
 use Rattle.blic_verifier.specs.HonestLaws.{HonestReplyFits}
 use Rattle.blic_verifier.specs.SoundnessLaws.{ReplyHasElements}
 use Rattle.blic_verifier.proofs.HonestPasses.{fits_honest}
@@ -25,23 +24,6 @@ use Rattle.blic_verifier.proofs.OfElements.{draw_element}
 -- the transcript of the draws and the first t honest replies
 abbrev pub honest_talk : List Node → ℕ → List ℕ → ℕ → Transcript
 honest_talk nodes levels draws t = transcript nodes levels (honest_answer nodes levels) draws (honest_replies nodes levels draws t)
-
-abbrev pub reply_at : List Node → ℕ → List ℕ → ℕ → Reply
-reply_at nodes levels draws t = honest_at nodes levels (honest_talk nodes levels draws t) (get_or (turns nodes levels) t (ForValues 0))
-
-pub replies_more : (nodes : List Node) (levels : ℕ) (draws : List ℕ) (t : ℕ)
-    → honest_replies nodes levels draws (suc t) ≡ honest_replies nodes levels draws t ++ reply_at nodes levels draws t ∷ []
-unfolding honest_replies table
-replies_more nodes levels draws t = refl
-
-pub length-replies : (nodes : List Node) (levels : ℕ) (draws : List ℕ) (t : ℕ) → length (honest_replies nodes levels draws t) ≡ t
-unfolding honest_replies
-length-replies nodes levels draws t = length-table (honest_entry nodes levels draws) t
-
-pub entry_is : (nodes : List Node) (levels : ℕ) (draws : List ℕ) (m t : ℕ) → t < m
-    → get_or (honest_replies nodes levels draws m) t no_reply ≡ reply_at nodes levels draws t
-unfolding honest_replies
-entry_is nodes levels draws m t l = get-table (honest_entry nodes levels draws) no_reply m t l
 
 draws_below : (nodes : List Node) (levels : ℕ) (draws : List ℕ) (t : ℕ) → All (λ r. r < modulus) draws → (k i : ℕ)
     → (honest_talk nodes levels draws t).draw k i < modulus

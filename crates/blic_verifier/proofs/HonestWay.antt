@@ -1,9 +1,9 @@
 -- A conversation in which each reply is the honest one.
-use Rattle.std.proofs.Common.{arith, ℕ, zero, suc, ◌≡◌, ◌+◌, ◌<◌, ◌≤◌, refl, sym, ◌∙◌, ap, subst, inl, inr, List, [], ◌∷◌, ◌++◌, length, get_or, Bool, true, false, cond, eqb, zero-add}
+use Rattle.std.proofs.Common.{arith, ℕ, zero, suc, ◌≡◌, ◌+◌, ◌<◌, ◌≤◌, refl, sym, ◌∙◌, ap, subst, inl, inr, List, [], ◌∷◌, ◌++◌, length, get_or, Bool, true, false, cond, zero-add}
 use Rattle.std.specs.Prelude.{All, Option, Some, None, filter, find, take, not}
 use Rattle.std.proofs.lemmas.Bool.{cases_eq, cases_Bool, eq-eqb, ne_eqb, cond-true, cond-false}
 use Rattle.std.proofs.lemmas.List.{length_push}
-use Rattle.std.proofs.lemmas.List.Elements.{All-append, All-cons, All-nil, All-head, All-tail}
+use Rattle.std.proofs.lemmas.List.Elements.{All-nil, All-head, All-tail}
 use Rattle.blic_field.specs.Field.{modulus}
 use Rattle.blic_model.specs.declared.node.Node.{Node}
 use Rattle.blic_model.specs.Circuit.{OrderedCircuit, table}
@@ -12,28 +12,28 @@ use Rattle.blic_model.specs.Counts.{claims}
 use Rattle.blic_model.proofs.Entries.{get-table}
 use Rattle.blic_model.proofs.Ordered.{ordered_all}
 use Rattle.blic_model.proofs.Shaped.{ordered_of}
-use Rattle.blic_messages.specs.Replies.{Said}
+use Rattle.blic_messages.specs.Replies.{Said, Polys as SaidPolys, Values as SaidValues}
 use Rattle.blic_messages.specs.declared.ask.Ask.{Ask}
-use Rattle.blic_claims.specs.Turns.{Turn, ForPolys, ForValues, Reply, Polys, Values, Fits, turns, transcript, no_reply, polys_of, values_of, polys_number, values_number, is_polys, wants_draw_after}
+use Rattle.blic_claims.specs.Turns.{Turn, ForPolys, ForValues, Reply, Polys, Values, Fits, turns, transcript, no_reply, reply_by, polys_of, values_of, polys_number, values_number, is_polys}
 use Rattle.blic_claims.specs.Honest.{honest_answer, honest_replies}
 use Rattle.blic_claims.proofs.Drawn.{levelled_from_shape}
 use Rattle.blic_claims.proofs.HonestReplies.{honest_entry, honest_upto}
+use Rattle.blic_claims.proofs.Settling.{entry_is, length-replies, replies_more, reply_at_turn}
 use Rattle.blic_claims.proofs.SomeClaim.{some_claim_law}
 use Rattle.blic_claims.proofs.Turns.{binary_inside, polys_below, values_below}
 use Rattle.blic_verifier.specs.Acceptance.{Check, checks, fails}
-use Rattle.blic_verifier.specs.Verdict.{Talk, Silent, Talked, fault_upto, judged, judged_at, verdict}
-use Rattle.blic_verifier.specs.Conversation.{Instance, Position, Awaits, Ended, go_on, read_on, position_after, beginning, honest_reply, said_of, AreHonest, GoesOnOrAccepts}
+use Rattle.blic_verifier.specs.Verdict.{Verdict, Draw, Go, Talk, Silent, Talked, fault_upto, judged, judged_at, verdict}
+use Rattle.blic_verifier.specs.Conversation.{Instance, Position, Awaits, Ended, go_on, read_on, position_after, beginning, honest_reply, AreHonest, GoesOnOrAccepts}
 use Rattle.blic_verifier.specs.declared.ending.Ending.TheVariants.{Certified}
 use Rattle.blic_verifier.specs.HonestLaws.{HonestConversationAccepts}
-use Rattle.blic_verifier.specs.declared.next.Next.{Next}
-use Rattle.blic_verifier.specs.declared.next.Next.TheVariants.{Draw, Go, Done}
 use Rattle.blic_verifier.proofs.FaultKept.{draws_before, draws_before_rise}
-use Rattle.blic_verifier.proofs.HonestEntries.{entry_is, honest_reply_fits, length-replies, replies_more, reply_at}
+use Rattle.blic_verifier.proofs.HonestEntries.{honest_reply_fits}
 use Rattle.blic_verifier.proofs.HonestPasses.{honest_passes}
-use Rattle.blic_verifier.proofs.Judging.{judged_fine}
+use Rattle.blic_verifier.proofs.Judging.{what_stands, judged_fine}
 use Rattle.blic_verifier.proofs.OfElements.{draw_element}
 use Rattle.blic_verifier.proofs.Settling.{settled}
 use Rattle.blic_verifier.proofs.ShownKept.{Agree, checks_kept, is_shown}
+use Rattle.blic_verifier.proofs.TalkElements.{draw_more}
 
 -- of conditions that hold none fails
 none_fails : (cs : List Check) (n : ℕ) → All (λ c. c.left ≡ c.right) cs → find fails (filter (is_shown n) cs) ≡ None
@@ -68,21 +68,17 @@ no_fault nodes levels shaped draws d m =
     ∙ none_fails (checks nodes levels (honest_upto nodes levels draws (length (turns nodes levels)))) (suc m)
     (honest_passes nodes levels (ordered_all nodes (ordered_of nodes levels shaped)) (levelled_from_shape nodes levels shaped) draws (draw_element draws d) (some_claim_law nodes levels shaped))
 
--- what stands after m replies of which none is refused
-abbrev what_stands : List Node → ℕ → ℕ → Next
-what_stands nodes levels m =
-    cond (eqb m (length (turns nodes levels))) (Done (honest_answer nodes levels)) (cond (wants_draw_after (turns nodes levels) m) Draw Go)
-
+-- what is said of the first m honest replies
 judged_honest : (nodes : List Node) (levels : ℕ) → IsShaped nodes levels → (draws : List ℕ) → All (λ r. r < modulus) draws → (m : ℕ)
-    → judged nodes levels (honest_answer nodes levels) draws (honest_replies nodes levels draws m) ≡ what_stands nodes levels m
+    → judged nodes levels (honest_answer nodes levels) draws (honest_replies nodes levels draws m) ≡ what_stands nodes levels (honest_answer nodes levels) m
 judged_honest nodes levels shaped draws d m =
     let long = length-replies nodes levels draws m in
     judged_fine nodes levels (honest_answer nodes levels) draws (honest_replies nodes levels draws m)
     (ap (λ n. fault_upto nodes levels (transcript nodes levels (honest_answer nodes levels) draws (honest_replies nodes levels draws m)) (suc n)) long
     ∙ no_fault nodes levels shaped draws d m)
-    ∙ ap (what_stands nodes levels) long
+    ∙ ap (what_stands nodes levels (honest_answer nodes levels)) long
 
-fits_judged : (nodes : List Node) (t : ℕ) (u : Turn) (r : Reply) (next : Next) → Fits nodes u r → judged_at nodes t u r next ≡ next
+fits_judged : (nodes : List Node) (t : ℕ) (u : Turn) (r : Reply) (next : Verdict) → Fits nodes u r → judged_at nodes t u r next ≡ next
 fits_judged nodes t (ForPolys k i) (Polys ps) next h = cond-true _ next _ (eq-eqb (length ps) (claims nodes k) h)
 fits_judged nodes t (ForPolys k i) (Values u w) next h = absurd h
 fits_judged nodes t (ForValues k) (Polys ps) next h = absurd h
@@ -128,7 +124,7 @@ more_draws nodes levels t b e = subst (λ z. draws_before nodes levels (suc t) �
 go_on_more : (c : OrderedCircuit) (draw : ℕ → ℕ) → ((n : ℕ) → draw n < modulus) → (draws : List ℕ) (replies : List Reply) (n t : ℕ)
     → t < length (turns c.nodes (length c.order)) → replies ≡ honest_replies c.nodes (length c.order) draws (suc t) → All (λ r. r < modulus) draws
     → draws_before c.nodes (length c.order) t ≤ length draws
-    → IsHonestPosition c (suc (suc t)) (go_on draw (Talked (honest_answer c.nodes (length c.order)) draws replies) n (what_stands c.nodes (length c.order) (suc t)))
+    → IsHonestPosition c (suc (suc t)) (go_on draw (Talked (honest_answer c.nodes (length c.order)) draws replies) n (what_stands c.nodes (length c.order) (honest_answer c.nodes (length c.order)) (suc t)))
 go_on_more c draw below draws replies n t l said elements drawn = elim (cases_eq (suc t) (length (turns c.nodes (length c.order)))) [
   | inl e ↦ subst there (sym (cond-true _ _ _ (eq-eqb (suc t) (length (turns c.nodes (length c.order))) e))) (refl, omega arith)
   | inr ne ↦ subst there (sym (cond-false _ _ _ (ne_eqb (suc t) (length (turns c.nodes (length c.order))) ne))) (elim (cases_Bool (is_polys (get_or (turns c.nodes (length c.order)) t (ForValues 0)))) [
@@ -137,7 +133,7 @@ go_on_more c draw below draws replies n t l said elements drawn = elim (cases_eq
       record {
         right = refl;
         said = said ∙ (sym (settled c.nodes (length c.order) draws (draw n ∷ []) (suc t) l earlier) ∙ ap (honest_replies c.nodes (length c.order) (draws ++ draw n ∷ [])) (sym long));
-        elements = All-append (λ r. r < modulus) draws (draw n ∷ []) elements (All-cons (λ r. r < modulus) (draw n) [] (below n) (All-nil (λ r. r < modulus)));
+        elements = draw_more draws (draw n) (below n) elements;
         left = omega (arith, long);
         drawn = (let count = more_draws c.nodes (length c.order) t true b in omega (arith, ap (draws_before c.nodes (length c.order)) long, length_push draws (draw n)));
       },
@@ -155,7 +151,7 @@ go_on_more c draw below draws replies n t l said elements drawn = elim (cases_eq
   ])
 ]
   where
-    there : Next → Type 0
+    there : Verdict → Type 0
     there next = IsHonestPosition c (suc (suc t)) (go_on draw (Talked (honest_answer c.nodes (length c.order)) draws replies) n next)
 
     long : length replies ≡ suc t
@@ -174,7 +170,7 @@ first_step : (c : OrderedCircuit) → IsShaped c.nodes (length c.order) → (dra
 first_step c shaped draw n =
     let nodes = c.nodes in
     let levels = length c.order in
-    let stands : judged nodes levels (honest_answer nodes levels) [] [] ≡ what_stands nodes levels 0 =
+    let stands : judged nodes levels (honest_answer nodes levels) [] [] ≡ what_stands nodes levels (honest_answer nodes levels) 0 =
     ap (judged nodes levels (honest_answer nodes levels) []) (sym (none_said nodes levels [])) ∙ judged_honest nodes levels shaped [] (All-nil (λ r. r < modulus)) 0 in
     subst there (sym stands) (elim (cases_eq 0 (length (turns nodes levels))) [
       | inl e ↦ subst there (sym (cond-true _ _ _ (eq-eqb 0 (length (turns nodes levels)) e))) (refl, omega arith)
@@ -190,11 +186,11 @@ first_step c shaped draw n =
       )
     ])
   where
-    there : Next → Type 0
+    there : Verdict → Type 0
     there next = IsHonestPosition c 1 (go_on draw (Talked (honest_answer c.nodes (length c.order)) [] []) n next)
 
 read_reply : (x : Instance) (draw : ℕ → ℕ) (ask : Ask) (a : Bool) (draws : List ℕ) (replies : List Reply) (n : ℕ) (r : Reply)
-    → read_on x draw (Awaits ask (Talked a draws replies) n) (Some (said_of r))
+    → read_on x draw (Awaits ask (Talked a draws replies) n) (Some (reply_by SaidPolys SaidValues r))
     ≡ go_on draw (Talked a draws (replies ++ r ∷ [])) n (verdict x.circuit.nodes (length x.circuit.order) a draws replies r)
 read_reply x draw ask a draws replies n (Polys ps) = refl
 read_reply x draw ask a draws replies n (Values u w) = refl
@@ -204,7 +200,7 @@ next_verdict : (nodes : List Node) (levels : ℕ) → IsShaped nodes levels → 
     → IsHonestTalk nodes levels (honest_answer nodes levels) draws replies
     → r ≡ get_or (honest_replies nodes levels draws (suc (length replies))) (length replies) no_reply
     → replies ++ r ∷ [] ≡ honest_replies nodes levels draws (suc (length replies))
-    → verdict nodes levels (honest_answer nodes levels) draws replies r ≡ what_stands nodes levels (suc (length replies))
+    → verdict nodes levels (honest_answer nodes levels) draws replies r ≡ what_stands nodes levels (honest_answer nodes levels) (suc (length replies))
 unfolding verdict
 next_verdict nodes levels shaped draws replies r h is more =
     let t = length replies in
@@ -225,7 +221,7 @@ talk_step x shaped draw below ask draws replies n h =
     let r = get_or (honest_replies nodes levels draws (suc t)) t no_reply in
     let more : replies ++ r ∷ [] ≡ honest_replies nodes levels draws (suc t) =
     ap (λ z. replies ++ z ∷ []) (entry_is nodes levels draws (suc t) t (omega arith))
-    ∙ (ap (λ z. z ++ reply_at nodes levels draws t ∷ []) h.said ∙ sym (replies_more nodes levels draws t)) in
+    ∙ (ap (λ z. z ++ reply_at_turn nodes levels draws t ∷ []) h.said ∙ sym (replies_more nodes levels draws t)) in
     subst (IsHonestPosition c (suc (suc t))) (sym (read_reply x draw ask b draws replies n r))
     (subst (λ z. IsHonestPosition c (suc (suc t)) (go_on draw (Talked b draws (replies ++ r ∷ [])) n z)) (sym (next_verdict nodes levels shaped draws replies r h refl more))
     (go_on_more c draw below draws (replies ++ r ∷ []) n t h.left more h.elements h.drawn))

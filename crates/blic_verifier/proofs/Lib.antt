@@ -45,6 +45,7 @@ pub mod TakenAnswer
 pub mod TakenDraw
 pub mod TakenPolys
 pub mod TakenValues
+pub mod TalkElements
 pub mod TurnPlaces
 pub mod ValuesFault
 pub mod ValuesReply

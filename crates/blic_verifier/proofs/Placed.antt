@@ -9,7 +9,8 @@ use Rattle.blic_draw.proofs.Elements.{element_drawn}
 use Rattle.blic_messages.specs.Replies.{Said}
 use Rattle.blic_messages.specs.declared.ask.Ask.{Ask}
 use Rattle.blic_messages.specs.declared.ask.Hello.{Hello}
-use Rattle.blic_verifier.specs.Asking.{Asking, IsAt, IsFollowed, IsOpen, IsWaiting, Tells}
+use Rattle.blic_verifier.specs.Asking.{Asking, IsAt, IsOpen, IsWaiting, IsSaidAt}
+use Rattle.blic_verifier.specs.Placed.{IsFollowed}
 use Rattle.blic_verifier.specs.Conversation.{Instance, Position, Awaits, Ended, read_on}
 use Rattle.blic_verifier.specs.Standing.{Verifying, StandsFor}
 use Rattle.blic_verifier.specs.Verdict.{Talk, Silent, Talked}
@@ -38,7 +39,7 @@ ended_by (Ends e) = Some e
 abbrev pub After : Asking → DrawsOf → Verifying → Option Said → Following → Position → Type 0
 After a d v says result p =
     IsAt (record { about = a.about; draws = d; verifier = v; ended = ended_by result }) (read_on a.about (draw_from a.draws.source) p says)
-    × Tells result (read_on a.about (draw_from a.draws.source) p says)
+    × IsSaidAt result (read_on a.about (draw_from a.draws.source) p says)
 
 by_result : (a : Asking) (d : DrawsOf) (v : Verifying) (says : Option Said) (result : Following) (ask : Ask) (t : Talk) (n : ℕ) → IsOpen a.about.circuit t n
     → IsFollowed v d (read_on a.about (draw_from a.draws.source) (Awaits ask t n) says) result → After a d v says result (Awaits ask t n)
@@ -70,8 +71,8 @@ pub ended_as : (a : Asking) (d : DrawsOf) (v : Verifying) (says : Option Said) (
 ended_as a d v says result p e is at =
     subst (λ z. IsAt (record { about = a.about; draws = d; verifier = v; ended = z }) (read_on a.about (draw_from a.draws.source) p says)) is at.0
 
-pub tells_as : (r q : Following) (p : Position) → r ≡ q → Tells r p → Tells q p
-tells_as r q p is tells = subst (λ z. Tells z p) is tells
+pub tells_as : (r q : Following) (p : Position) → r ≡ q → IsSaidAt r p → IsSaidAt q p
+tells_as r q p is tells = subst (λ z. IsSaidAt z p) is tells
 
 pub not_ended : (o : Option Ending) → ((e : Ending) → o ≡ Some e → ⊥) → o ≡ None
 not_ended None none = refl

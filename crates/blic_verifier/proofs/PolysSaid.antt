@@ -12,8 +12,7 @@ use Rattle.blic_verifier.proofs.Judging.{judged_fault, judged_fine}
 use Rattle.blic_verifier.proofs.PolysReply.{reply_place, polys_fault, polys_fine}
 use Rattle.blic_verifier.specs.Acceptance.{no_poly}
 use Rattle.blic_verifier.specs.Standing.{IsReady}
-use Rattle.blic_verifier.specs.Verdict.{judged, judged_at, verdict, told_count}
-use Rattle.blic_verifier.specs.declared.next.Next.TheVariants.{Draw, Go, Done, Rejected, WrongCount}
+use Rattle.blic_verifier.specs.Verdict.{Draw, Go, Done, Rejected, WrongCount, judged, judged_at, verdict, told_count}
 use Rattle.blic_verifier.specs.declared.place.Part.TheVariants.{Poly}
 
 -- the turn that stands next

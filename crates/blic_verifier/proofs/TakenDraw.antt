@@ -9,7 +9,7 @@ use Rattle.blic_claims.specs.Points.{coordinate, Draws}
 use Rattle.blic_claims.specs.declared.layout.Row.{Row}
 use Rattle.blic_verifier.specs.Acceptance.{no_poly}
 use Rattle.blic_verifier.specs.Verdict.{Talk, Silent, Talked, with_draw}
-use Rattle.blic_verifier.specs.Standing.{Verifying, held_value, StandsFor, StandsAt, IsReady, claims_waiting}
+use Rattle.blic_verifier.specs.Standing.{Verifying, held_value, HoldsFor, StandsAt, IsReady, claims_waiting}
 use Rattle.blic_verifier.specs.declared.stage.Stage.TheVariants.{Fresh, Ready, Drawing}
 use Rattle.blic_claims.proofs.Rows.{IsRow, sum_apart}
 use Rattle.blic_claims.proofs.HeldNodes.{is_place}
@@ -21,7 +21,7 @@ pub drawn_stands : (s n : Verifying) (k i r : ℕ) (row : Row) → s.stage ≡ D
     → s.points.rows ≡ (layout_of s.circuit).rows → IsRow s.circuit k row → n.points.rows ≡ s.points.rows → Draws s.points k i r n.points
     → ((c : ℕ) → c < row.claims → get_or n.values (row.first + c) 0 ≡ at (get_or s.polys c no_poly) r)
     → ((q : ℕ) → (q < row.first) ⊎ (row.first + row.claims ≤ q) → get_or n.values q 0 ≡ get_or s.values q 0)
-    → (t : Talk) → StandsFor s t → StandsFor n (with_draw t r)
+    → (t : Talk) → HoldsFor s t → HoldsFor n (with_draw t r)
 drawn_stands s n k i r row es en ec ea et ep own eq hd hi ho Silent st = absurd (apart (sym es ∙ st.0))
   where
     apart : Drawing k i ≡ Fresh → ⊥

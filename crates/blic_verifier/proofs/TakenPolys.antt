@@ -12,8 +12,8 @@ use Rattle.blic_claims.specs.declared.layout.Row.{Row}
 use Rattle.blic_claims.proofs.Turns.{polys_below}
 use Rattle.blic_messages.specs.Replies.{Polys}
 use Rattle.blic_verifier.specs.Acceptance.{no_poly}
-use Rattle.blic_verifier.specs.Verdict.{Talk, Silent, Talked, next_after, with_reply, told_count}
-use Rattle.blic_verifier.specs.Standing.{Verifying, held_value, StandsFor, StandsAt, IsReady, IsDrawing}
+use Rattle.blic_verifier.specs.Verdict.{Talk, Silent, Talked, next_of, next_after, with_reply, told_count}
+use Rattle.blic_verifier.specs.Standing.{Verifying, held_value, HoldsFor, StandsAt, IsReady, IsDrawing}
 use Rattle.blic_verifier.specs.Holding.{IsFirstDifference, value_in}
 use Rattle.blic_verifier.specs.Fitted.{HasFewTurns}
 use Rattle.blic_verifier.specs.declared.place.Part.TheVariants.{Poly}
@@ -31,30 +31,30 @@ pub record IsReadyFor (s : Verifying) (k i : ℕ) (answer : Bool) (draws : List 
   pub ready : IsReady s.circuit.nodes (length s.circuit.order) answer draws replies k i (coordinate s.points) (held_value s)
 
 pub ready_for : (s : Verifying) (k i : ℕ) (answer : Bool) (draws : List ℕ) (replies : List Reply) → s.stage ≡ Ready k i
-    → StandsFor s (Talked answer draws replies) → IsReadyFor s k i answer draws replies
+    → HoldsFor s (Talked answer draws replies) → IsReadyFor s k i answer draws replies
 ready_for s k i answer draws replies es st =
     let w : StandsAt s (Ready k i) answer draws replies = subst (λ z. StandsAt s z answer draws replies) es st in
     record { same_answer = w.0; same_turn = w.1; ready = w.2 }
 
-pub not_silent : (s : Verifying) (k i : ℕ) → s.stage ≡ Ready k i → StandsFor s Silent → ⊥
+pub not_silent : (s : Verifying) (k i : ℕ) → s.stage ≡ Ready k i → HoldsFor s Silent → ⊥
 not_silent s k i es st = apart (sym es ∙ st.0)
   where
     apart : Ready k i ≡ Fresh → ⊥
     apart e = cc
 
 known : (s : Verifying) (k i : ℕ) (answer : Bool) (draws : List ℕ) (replies : List Reply) → s.stage ≡ Ready k (i + 1)
-    → StandsFor s (Talked answer draws replies) → IsReadyFor s k (suc i) answer draws replies
+    → HoldsFor s (Talked answer draws replies) → IsReadyFor s k (suc i) answer draws replies
 known s k i answer draws replies es st = ready_for s k (suc i) answer draws replies (es ∙ ap (Ready k) (let e : i + 1 ≡ suc i = omega arith in e)) st
 
 pub count_said : (s : Verifying) (k i : ℕ) (row : Row) (ps : List Quadratic) → s.stage ≡ Ready k (i + 1) → IsRow s.circuit k row → (length ps ≡ row.claims → ⊥)
-    → (t : Talk) → StandsFor s t → WrongCount s.turn row.claims (told_count (length ps)) ≡ next_after s.circuit.nodes (length s.circuit.order) t (Polys ps)
+    → (t : Talk) → HoldsFor s t → WrongCount s.turn row.claims (told_count (length ps)) ≡ next_of (next_after s.circuit.nodes (length s.circuit.order) t (Polys ps))
 count_said s k i row ps es own ne Silent st = absurd (not_silent s k (i + 1) es st)
 count_said s k i row ps es own ne (Talked answer draws replies) st =
     let w = known s k i answer draws replies es st in
     let m = own.count in
     ap (λ z. WrongCount z row.claims (told_count (length ps))) w.same_turn
     ∙ (ap (λ z. WrongCount (suc (length replies)) z (told_count (length ps))) m
-    ∙ sym (count_says s.circuit.nodes (length s.circuit.order) answer draws replies k i (coordinate s.points) (held_value s) ps w.ready (λ e. ne (e ∙ sym m))))
+    ∙ sym (ap next_of (count_says s.circuit.nodes (length s.circuit.order) answer draws replies k i (coordinate s.points) (held_value s) ps w.ready (λ e. ne (e ∙ sym m)))))
 
 -- the value of a claim at the place that its row tells
 pub held_at : (s : Verifying) (k c : ℕ) (row : Row) → s.points.rows ≡ (layout_of s.circuit).rows → IsRow s.circuit k row → k < length s.circuit.nodes
@@ -64,25 +64,25 @@ held_at s k c row ep own lk = ap (λ z. get_or s.values (z + c) 0) own.first ∙
 pub fault_said : (s : Verifying) (k i d : ℕ) (row : Row) (ps : List Quadratic) → s.stage ≡ Ready k (i + 1)
     → s.points.rows ≡ (layout_of s.circuit).rows → IsRow s.circuit k row → length ps ≡ row.claims
     → IsFirstDifference row.claims (λ c. reduced_at (get_or ps c no_poly) (coordinate s.points k c i)) (λ c. get_or s.values (row.first + c) 0) (Some d)
-    → (t : Talk) → StandsFor s t → Rejected (record { node = k; part = Poly i; claim = d }) ≡ next_after s.circuit.nodes (length s.circuit.order) t (Polys ps)
+    → (t : Talk) → HoldsFor s t → Rejected (record { node = k; part = Poly i; claim = d }) ≡ next_of (next_after s.circuit.nodes (length s.circuit.order) t (Polys ps))
 fault_said s k i d row ps es ep own e h Silent st = absurd (not_silent s k (i + 1) es st)
 fault_said s k i d row ps es ep own e (ld, before, bad) (Talked answer draws replies) st =
     let w = known s k i answer draws replies es st in
     let m = own.count in
     let lk = w.ready.inside in
-    sym (fault_says s.circuit.nodes (length s.circuit.order) answer draws replies k i d (coordinate s.points) (held_value s) ps w.ready (e ∙ m) (omega arith)
-    (λ c l. before c l ∙ held_at s k c row ep own lk) (λ q. bad (q ∙ sym (held_at s k d row ep own lk))))
+    sym (ap next_of (fault_says s.circuit.nodes (length s.circuit.order) answer draws replies k i d (coordinate s.points) (held_value s) ps w.ready (e ∙ m) (omega arith)
+    (λ c l. before c l ∙ held_at s k c row ep own lk) (λ q. bad (q ∙ sym (held_at s k d row ep own lk)))))
 
 pub fine_said : (s : Verifying) (k i : ℕ) (row : Row) (ps : List Quadratic) → s.stage ≡ Ready k (i + 1) → s.points.rows ≡ (layout_of s.circuit).rows
     → IsRow s.circuit k row → length ps ≡ row.claims
     → IsFirstDifference row.claims (λ c. reduced_at (get_or ps c no_poly) (coordinate s.points k c i)) (λ c. get_or s.values (row.first + c) 0) None
-    → (t : Talk) → StandsFor s t → Draw ≡ next_after s.circuit.nodes (length s.circuit.order) t (Polys ps)
+    → (t : Talk) → HoldsFor s t → Draw ≡ next_of (next_after s.circuit.nodes (length s.circuit.order) t (Polys ps))
 fine_said s k i row ps es ep own e h Silent st = absurd (not_silent s k (i + 1) es st)
 fine_said s k i row ps es ep own e h (Talked answer draws replies) st =
     let w = known s k i answer draws replies es st in
     let m = own.count in
-    sym (fine_says s.circuit.nodes (length s.circuit.order) answer draws replies k i (coordinate s.points) (held_value s) ps w.ready (e ∙ m)
-    (λ c l. h c (omega arith) ∙ held_at s k c row ep own w.ready.inside))
+    sym (ap next_of (fine_says s.circuit.nodes (length s.circuit.order) answer draws replies k i (coordinate s.points) (held_value s) ps w.ready (e ∙ m)
+    (λ c l. h c (omega arith) ∙ held_at s k c row ep own w.ready.inside)))
 
 pub fine_stands : (s n : Verifying) (k i : ℕ) (row : Row) (ps : List Quadratic) → s.stage ≡ Ready k (i + 1) → n.stage ≡ Drawing k i
     → n.circuit ≡ s.circuit → n.points ≡ s.points → n.values ≡ s.values → n.answer ≡ s.answer
@@ -90,7 +90,7 @@ pub fine_stands : (s n : Verifying) (k i : ℕ) (row : Row) (ps : List Quadratic
     → s.points.rows ≡ (layout_of s.circuit).rows → IsRow s.circuit k row → length ps ≡ row.claims
     → IsFirstDifference row.claims (λ c. reduced_at (get_or ps c no_poly) (coordinate s.points k c i)) (λ c. get_or s.values (row.first + c) 0) None
     → ((c : ℕ) → c < length ps → get_or n.polys c no_poly ≡ get_or ps c no_poly)
-    → (t : Talk) → StandsFor s t → StandsFor n (with_reply t (Polys ps))
+    → (t : Talk) → HoldsFor s t → HoldsFor n (with_reply t (Polys ps))
 fine_stands s n k i row ps es en ec epn ev ea et few ep own e h kept Silent st = absurd (not_silent s k (i + 1) es st)
 fine_stands s n k i row ps es en ec epn ev ea et few ep own e h kept (Talked answer draws replies) st =
     let w = known s k i answer draws replies es st in

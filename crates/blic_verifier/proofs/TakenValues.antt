@@ -15,8 +15,8 @@ use Rattle.blic_claims.proofs.Turns.{values_below}
 use Rattle.blic_claims.proofs.SomeClaim.{some_claim_law}
 use Rattle.blic_messages.specs.Replies.{Values}
 use Rattle.blic_verifier.specs.Acceptance.{ends_check, combine_check}
-use Rattle.blic_verifier.specs.Verdict.{Talk, Silent, Talked, judged, next_after, with_reply, IsAcceptedAs}
-use Rattle.blic_verifier.specs.Standing.{Verifying, held_value, StandsFor, StandsAt}
+use Rattle.blic_verifier.specs.Verdict.{Talk, Silent, Talked, next_of, judged, next_after, with_reply, IsAcceptedAs}
+use Rattle.blic_verifier.specs.Standing.{Verifying, held_value, HoldsFor, StandsAt}
 use Rattle.blic_verifier.specs.Holding.{IsFirstDifference, joined, HasMet, WalksTo}
 use Rattle.blic_verifier.specs.Fitted.{HasFewTurns, IsOnWalk}
 use Rattle.blic_verifier.specs.declared.place.Part.TheVariants.{Ends, Combine}
@@ -36,7 +36,7 @@ value_is s k value row ep own lk e = e ∙ (ap (λ z. get_or s.values z 0) (let 
 pub ends_said : (s : Verifying) (k d u w value : ℕ) (row : Row) → s.stage ≡ Ready k 0 → s.points.rows ≡ (layout_of s.circuit).rows
     → IsRow s.circuit k row → value ≡ get_or s.values row.first 0
     → IsFirstDifference row.claims (λ c. get_or s.values (row.first + c) 0) (λ c. value) (Some d)
-    → (t : Talk) → StandsFor s t → Rejected (record { node = k; part = Ends; claim = d }) ≡ next_after s.circuit.nodes (length s.circuit.order) t (Values u w)
+    → (t : Talk) → HoldsFor s t → Rejected (record { node = k; part = Ends; claim = d }) ≡ next_of (next_after s.circuit.nodes (length s.circuit.order) t (Values u w))
 ends_said s k d u w value row es ep own ev h Silent st = absurd (not_silent s k 0 es st)
 ends_said s k d u w value row es ep own ev (ld, before, bad) (Talked answer draws replies) st =
     let nodes = s.circuit.nodes in
@@ -46,18 +46,18 @@ ends_said s k d u w value row es ep own ev (ld, before, bad) (Talked answer draw
     let m = own.count in
     let zero = value_is s k value row ep own lk ev in
     let S = transcript nodes levels answer draws (replies ++ ValuesReply u w ∷ []) in
-    sym (values_next nodes levels answer draws replies k u w (coordinate s.points) (held_value s) r.ready
+    sym (ap next_of (values_next nodes levels answer draws replies k u w (coordinate s.points) (held_value s) r.ready
     ∙ judged_fault nodes levels answer draws (replies ++ ValuesReply u w ∷ []) (ends_check nodes levels S k (claims_on nodes levels S k) d)
     (ends_fault nodes levels answer draws replies k u w d (coordinate s.points) (held_value s) r.ready (omega arith)
     (λ e l. sym (held_at s k e row ep own lk) ∙ (before e l ∙ zero))
-    (λ q. bad (held_at s k d row ep own lk ∙ (q ∙ sym zero)))))
+    (λ q. bad (held_at s k d row ep own lk ∙ (q ∙ sym zero))))))
 
 pub combine_said : (s : Verifying) (k u w value : ℕ) (row : Row) → s.stage ≡ Ready k 0 → s.points.rows ≡ (layout_of s.circuit).rows
     → IsRow s.circuit k row → value ≡ get_or s.values row.first 0
     → IsShaped s.circuit.nodes (length s.circuit.order)
     → IsFirstDifference row.claims (λ c. get_or s.values (row.first + c) 0) (λ c. value) None → (joined (node_at s.circuit.nodes k) u w ≡ value → ⊥)
-    → (t : Talk) → StandsFor s t
-    → Rejected (record { node = k; part = Combine; claim = 0 }) ≡ next_after s.circuit.nodes (length s.circuit.order) t (Values u w)
+    → (t : Talk) → HoldsFor s t
+    → Rejected (record { node = k; part = Combine; claim = 0 }) ≡ next_of (next_after s.circuit.nodes (length s.circuit.order) t (Values u w))
 combine_said s k u w value row es ep own ev shaped h bad Silent st = absurd (not_silent s k 0 es st)
 combine_said s k u w value row es ep own ev shaped h bad (Talked answer draws replies) st =
     let nodes = s.circuit.nodes in
@@ -67,11 +67,11 @@ combine_said s k u w value row es ep own ev shaped h bad (Talked answer draws re
     let m = own.count in
     let zero = value_is s k value row ep own lk ev in
     let S = transcript nodes levels answer draws (replies ++ ValuesReply u w ∷ []) in
-    sym (values_next nodes levels answer draws replies k u w (coordinate s.points) (held_value s) r.ready
+    sym (ap next_of (values_next nodes levels answer draws replies k u w (coordinate s.points) (held_value s) r.ready
     ∙ judged_fault nodes levels answer draws (replies ++ ValuesReply u w ∷ []) (combine_check nodes levels S k (claims_on nodes levels S k) (joined (node_at nodes k) u w))
     (combine_fault nodes levels answer draws replies k u w (coordinate s.points) (held_value s) r.ready (some_claim_law nodes levels shaped k lk)
     (λ c l. sym (held_at s k c row ep own lk) ∙ (h c (omega arith) ∙ zero))
-    (λ q. bad (sym q ∙ sym zero))))
+    (λ q. bad (sym q ∙ sym zero)))))
 
 -- where all ends meet and the values combine, the walk goes on
 pub on_walk : (s n : Verifying) (k u w value : ℕ) (row : Row) → s.stage ≡ Ready k 0 → s.points.rows ≡ (layout_of s.circuit).rows
@@ -79,7 +79,7 @@ pub on_walk : (s n : Verifying) (k u w value : ℕ) (row : Row) → s.stage ≡ 
     → IsFirstDifference row.claims (λ c. get_or s.values (row.first + c) 0) (λ c. value) None → joined (node_at s.circuit.nodes k) u w ≡ value
     → n.circuit ≡ s.circuit → n.answer ≡ s.answer → n.turn ≡ min (s.turn + 1) 18446744073709551615 → HasFewTurns s.circuit
     → ((answer : Bool) (draws : List ℕ) (replies : List Reply) → HasMet s.circuit answer draws replies k s.points s.values u w → WalksTo s.circuit answer draws (replies ++ ValuesReply u w ∷ []) k n.points n.values)
-    → (answer : Bool) (draws : List ℕ) (replies : List Reply) → StandsFor s (Talked answer draws replies)
+    → (answer : Bool) (draws : List ℕ) (replies : List Reply) → HoldsFor s (Talked answer draws replies)
     → IsOnWalk n answer draws (replies ++ ValuesReply u w ∷ []) k
 on_walk s n k u w value row es ep own ev h comb ec ea et few walk answer draws replies st =
     let nodes = s.circuit.nodes in
@@ -104,26 +104,26 @@ on_walk s n k u w value row es ep own ev h comb ec ea et few walk answer draws r
 
 -- what is said and stood for after the walk is so for the talk with the values
 pub walk_said : (s n : Verifying) (k u w : ℕ) (next : Next) → s.stage ≡ Ready k 0 → n.circuit ≡ s.circuit
-    → ((answer : Bool) (draws : List ℕ) (replies : List Reply) → StandsFor s (Talked answer draws replies) → IsOnWalk n answer draws (replies ++ ValuesReply u w ∷ []) k)
-    → ((answer : Bool) (draws : List ℕ) (replies : List Reply) → IsOnWalk n answer draws replies k → next ≡ judged n.circuit.nodes (length n.circuit.order) answer draws replies)
-    → (t : Talk) → StandsFor s t → next ≡ next_after s.circuit.nodes (length s.circuit.order) t (Values u w)
+    → ((answer : Bool) (draws : List ℕ) (replies : List Reply) → HoldsFor s (Talked answer draws replies) → IsOnWalk n answer draws (replies ++ ValuesReply u w ∷ []) k)
+    → ((answer : Bool) (draws : List ℕ) (replies : List Reply) → IsOnWalk n answer draws replies k → next ≡ next_of (judged n.circuit.nodes (length n.circuit.order) answer draws replies))
+    → (t : Talk) → HoldsFor s t → next ≡ next_of (next_after s.circuit.nodes (length s.circuit.order) t (Values u w))
 walk_said s n k u w next es ec on says Silent st = absurd (not_silent s k 0 es st)
 walk_said s n k u w next es ec on says (Talked answer draws replies) st =
     says answer draws (replies ++ ValuesReply u w ∷ []) (on answer draws replies st)
-    ∙ (ap (λ z. judged z.nodes (length z.order) answer draws (replies ++ ValuesReply u w ∷ [])) ec
-    ∙ sym (values_next s.circuit.nodes (length s.circuit.order) answer draws replies k u w (coordinate s.points) (held_value s) (ready_for s k 0 answer draws replies es st).ready))
+    ∙ (ap (λ z. next_of (judged z.nodes (length z.order) answer draws (replies ++ ValuesReply u w ∷ []))) ec
+    ∙ sym (ap next_of (values_next s.circuit.nodes (length s.circuit.order) answer draws replies k u w (coordinate s.points) (held_value s) (ready_for s k 0 answer draws replies es st).ready)))
 
 pub walk_stands : (s n after : Verifying) (k u w : ℕ) → s.stage ≡ Ready k 0
-    → ((answer : Bool) (draws : List ℕ) (replies : List Reply) → StandsFor s (Talked answer draws replies) → IsOnWalk n answer draws (replies ++ ValuesReply u w ∷ []) k)
+    → ((answer : Bool) (draws : List ℕ) (replies : List Reply) → HoldsFor s (Talked answer draws replies) → IsOnWalk n answer draws (replies ++ ValuesReply u w ∷ []) k)
     → ((answer : Bool) (draws : List ℕ) (replies : List Reply) → IsOnWalk n answer draws replies k → StandsAt after after.stage answer draws replies)
-    → (t : Talk) → StandsFor s t → StandsFor after (with_reply t (Values u w))
+    → (t : Talk) → HoldsFor s t → HoldsFor after (with_reply t (Values u w))
 walk_stands s n after k u w es on stands Silent st = absurd (not_silent s k 0 es st)
 walk_stands s n after k u w es on stands (Talked answer draws replies) st = stands answer draws (replies ++ ValuesReply u w ∷ []) (on answer draws replies st)
 
 pub walk_accepted : (s n : Verifying) (k u w : ℕ) (next : Next) → s.stage ≡ Ready k 0 → n.circuit ≡ s.circuit
-    → ((answer : Bool) (draws : List ℕ) (replies : List Reply) → StandsFor s (Talked answer draws replies) → IsOnWalk n answer draws (replies ++ ValuesReply u w ∷ []) k)
+    → ((answer : Bool) (draws : List ℕ) (replies : List Reply) → HoldsFor s (Talked answer draws replies) → IsOnWalk n answer draws (replies ++ ValuesReply u w ∷ []) k)
     → ((answer : Bool) (draws : List ℕ) (replies : List Reply) → IsOnWalk n answer draws replies k → (b : Bool) → next ≡ Done b → IsAcceptedAs n.circuit b (Talked answer draws replies))
-    → (t : Talk) → StandsFor s t → (b : Bool) → next ≡ Done b → IsAcceptedAs s.circuit b (with_reply t (Values u w))
+    → (t : Talk) → HoldsFor s t → (b : Bool) → next ≡ Done b → IsAcceptedAs s.circuit b (with_reply t (Values u w))
 walk_accepted s n k u w next es ec on accepted Silent st b e = absurd (not_silent s k 0 es st)
 walk_accepted s n k u w next es ec on accepted (Talked answer draws replies) st b e =
     subst (λ z. IsAcceptedAs z b (Talked answer draws (replies ++ ValuesReply u w ∷ []))) ec (accepted answer draws (replies ++ ValuesReply u w ∷ []) (on answer draws replies st) b e)

@@ -8,10 +8,12 @@ use Rattle.std.proofs.Math.Seq.{drop-cons}
 use Rattle.blic_model.specs.declared.node.Node.{Node}
 use Rattle.blic_model.specs.Circuit.{node_at, below}
 use Rattle.blic_model.specs.Counts.{claims}
+use Rattle.blic_model.proofs.ChildEntries.{length_of_below, entry_of_below}
 use Rattle.blic_claims.specs.Claims.{claims_on}
 use Rattle.blic_claims.specs.Turns.{Reply, Values, ForValues, turns, transcript, values_number}
+use Rattle.blic_claims.proofs.Pairs.{binary_pair}
 use Rattle.blic_claims.proofs.ClaimCounts.{length-claims_on}
-use Rattle.blic_claims.proofs.Lists.{All-below-lt, length-below, get_or-below}
+use Rattle.blic_claims.proofs.Lists.{All-below-lt}
 use Rattle.blic_claims.proofs.Turns.{values_turn}
 use Rattle.blic_verifier.specs.Acceptance.{Check, fails, ends_check, combine_check, binary_checks}
 use Rattle.blic_verifier.specs.Standing.{IsReady}
@@ -23,7 +25,7 @@ use Rattle.blic_verifier.proofs.Shown.{ends_part}
 use Rattle.blic_verifier.proofs.AddedReply.{agree_reply, sound_kept}
 use Rattle.blic_verifier.proofs.Clear.{fault_here, values_verdict}
 use Rattle.blic_verifier.proofs.ValuesReply.{none_map, end_is}
-use Rattle.blic_verifier.proofs.BinaryWalk.{pair_of, pair_checks, told_values}
+use Rattle.blic_verifier.proofs.BinaryWalk.{pair_checks, told_values}
 
 -- values stand next at a node whose levels are all drawn
 pub values_next : (nodes : List Node) (levels : ℕ) (answer : Bool) (draws : List ℕ) (replies : List Reply) (k u w : ℕ) (x : ℕ → ℕ → ℕ → ℕ) (v : ℕ → ℕ → ℕ)
@@ -44,7 +46,7 @@ pub told_checks : (nodes : List Node) (levels : ℕ) (answer : Bool) (draws : Li
 told_checks nodes levels answer draws replies k u w x v R =
     let rc = R.reply_count in
     let S = transcript nodes levels answer draws (replies ++ Values u w ∷ []) in
-    pair_checks nodes levels S k _ _ (pair_of (node_at nodes k) R.binary)
+    pair_checks nodes levels S k _ _ (binary_pair (node_at nodes k) R.binary)
     ∙ ap (λ z. binary_checks nodes levels S k (claims_on nodes levels S k) (joined (node_at nodes k) z.0 z.1)) (told_values nodes levels answer draws replies k u w (omega arith))
 
 -- what the values show is what their node's ends and combination show
@@ -67,7 +69,7 @@ shown_here nodes levels answer draws replies k u w x v c R e =
 
 -- the numbers from 1 on
 from_one : (n : ℕ) → 0 < n → below n ≡ 0 ∷ drop 1 (below n)
-from_one n l = drop-cons (below n) 0 0 (subst (λ z. 0 < z) (sym (length-below n)) l) ∙ ap (λ z. z ∷ drop 1 (below n)) (get_or-below n 0 0 l)
+from_one n l = drop-cons (below n) 0 0 (subst (λ z. 0 < z) (sym (length_of_below n)) l) ∙ ap (λ z. z ∷ drop 1 (below n)) (entry_of_below n 0 0 l)
 
 -- the first of a list from 1 on, where 0 has none
 find_from_one : (g : ℕ → Check) (n d : ℕ) → d < n → fails (g 0) ≡ false → ((e : ℕ) → e < d → fails (g e) ≡ false) → fails (g d) ≡ true

@@ -4,7 +4,7 @@ use Rattle.blic_model.specs.Circuit.{OrderedCircuit}
 use Rattle.blic_model.specs.Shape.{IsShaped}
 use Rattle.blic_claims.specs.Turns.{Reply}
 use Rattle.blic_verifier.specs.Acceptance.{Passes}
-use Rattle.blic_verifier.specs.SoundnessLaws.{AreElements}
+use Rattle.blic_verifier.specs.SoundnessLaws.{AreElements, TalkHasElements}
 use Rattle.blic_verifier.specs.Verdict.{Talk, Silent, Talked, IsAcceptedAs}
 use Rattle.blic_verifier.specs.Accepting.{ShowsBadDraw, IsWorth}
 use Rattle.blic_claims.specs.Claims.{zero_point}
@@ -22,6 +22,6 @@ shows c h answer draws replies e p = record {
 }
 
 -- what is accepted as b is worth that
-pub worth : (c : OrderedCircuit) → IsShaped c.nodes (length c.order) → (b : Bool) (t : Talk) → IsAcceptedAs c b t → IsWorth c b t
-worth c h b Silent a = a
-worth c h b (Talked answer draws replies) a = (a.0, λ e. shows c h answer draws replies e a.1)
+pub worth : (c : OrderedCircuit) → IsShaped c.nodes (length c.order) → (b : Bool) (t : Talk) → IsAcceptedAs c b t → TalkHasElements t → IsWorth c b t
+worth c h b Silent a e = a
+worth c h b (Talked answer draws replies) a e = (a.0, shows c h answer draws replies e a.1)

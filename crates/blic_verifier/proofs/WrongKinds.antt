@@ -9,9 +9,9 @@ use Rattle.blic_claims.proofs.Turns.{polys_turn, values_turn}
 use Rattle.blic_messages.specs.Replies.{said}
 use Rattle.blic_messages.specs.declared.reply.Reply.{Reply as Told}
 use Rattle.blic_messages.specs.declared.reply.Reply.TheVariants.{Answer, Polys, Values, Refused}
-use Rattle.blic_verifier.specs.Verdict.{Talk, Silent, Talked, judged, judged_at, verdict, next_after}
-use Rattle.blic_verifier.specs.Standing.{Verifying, held_value, StandsFor, IsReady}
-use Rattle.blic_verifier.specs.declared.next.Next.TheVariants.{WrongKind}
+use Rattle.blic_verifier.specs.Verdict.{Talk, Silent, Talked, WrongKind, next_of, judged, judged_at, verdict, next_after}
+use Rattle.blic_verifier.specs.Standing.{Verifying, held_value, HoldsFor, IsReady}
+use Rattle.blic_verifier.specs.declared.next.Next.TheVariants as next
 use Rattle.blic_verifier.specs.declared.stage.Stage.TheVariants.{Ready}
 use Rattle.blic_verifier.proofs.PolysReply.{reply_place}
 use Rattle.blic_verifier.proofs.TakenPolys.{ready_for, not_silent}
@@ -38,22 +38,22 @@ values_at_polys nodes levels answer draws replies k i x v r R e =
     ap (λ t. judged_at nodes (suc (length replies)) t r (judged nodes levels answer draws (replies ++ r ∷ [])))
     (ap (λ z. get_or (turns nodes levels) z (ForValues 0)) n ∙ polys_turn nodes levels k i R.inside R.binary (omega arith)) ∙ e
 
-pub no_values : (s : Verifying) (k : ℕ) (r : Told) → s.stage ≡ Ready k 0 → ((u w : ℕ) → r ≡ Values u w → ⊥) → (t : Talk) → StandsFor s t
-    → WrongKind s.turn ≡ next_after s.circuit.nodes (length s.circuit.order) t (said r)
+pub no_values : (s : Verifying) (k : ℕ) (r : Told) → s.stage ≡ Ready k 0 → ((u w : ℕ) → r ≡ Values u w → ⊥) → (t : Talk) → HoldsFor s t
+    → next.WrongKind s.turn ≡ next_of (next_after s.circuit.nodes (length s.circuit.order) t (said r))
 no_values s k r es ne Silent st = absurd (not_silent s k 0 es st)
-no_values s k (Answer b) es ne (Talked answer draws replies) st = ap WrongKind (ready_for s k 0 answer draws replies es st).same_turn
-no_values s k (Refused why) es ne (Talked answer draws replies) st = ap WrongKind (ready_for s k 0 answer draws replies es st).same_turn
+no_values s k (Answer b) es ne (Talked answer draws replies) st = ap next.WrongKind (ready_for s k 0 answer draws replies es st).same_turn
+no_values s k (Refused why) es ne (Talked answer draws replies) st = ap next.WrongKind (ready_for s k 0 answer draws replies es st).same_turn
 no_values s k (Values u w) es ne (Talked answer draws replies) st = absurd (ne u w refl)
 no_values s k (Polys ps) es ne (Talked answer draws replies) st =
     let w = ready_for s k 0 answer draws replies es st in
-    ap WrongKind w.same_turn ∙ sym (polys_at_values s.circuit.nodes (length s.circuit.order) answer draws replies k (coordinate s.points) (held_value s) (PolysReply ps.now) w.ready refl)
+    ap next.WrongKind w.same_turn ∙ sym (ap next_of (polys_at_values s.circuit.nodes (length s.circuit.order) answer draws replies k (coordinate s.points) (held_value s) (PolysReply ps.now) w.ready refl))
 
 pub no_polys : (s : Verifying) (k i : ℕ) (r : Told) → s.stage ≡ Ready k (suc i) → ((ps : Bor (List Quadratic)) → r ≡ Polys ps → ⊥) → (t : Talk)
-    → StandsFor s t → WrongKind s.turn ≡ next_after s.circuit.nodes (length s.circuit.order) t (said r)
+    → HoldsFor s t → next.WrongKind s.turn ≡ next_of (next_after s.circuit.nodes (length s.circuit.order) t (said r))
 no_polys s k i r es ne Silent st = absurd (not_silent s k (suc i) es st)
-no_polys s k i (Answer b) es ne (Talked answer draws replies) st = ap WrongKind (ready_for s k (suc i) answer draws replies es st).same_turn
-no_polys s k i (Refused why) es ne (Talked answer draws replies) st = ap WrongKind (ready_for s k (suc i) answer draws replies es st).same_turn
+no_polys s k i (Answer b) es ne (Talked answer draws replies) st = ap next.WrongKind (ready_for s k (suc i) answer draws replies es st).same_turn
+no_polys s k i (Refused why) es ne (Talked answer draws replies) st = ap next.WrongKind (ready_for s k (suc i) answer draws replies es st).same_turn
 no_polys s k i (Polys ps) es ne (Talked answer draws replies) st = absurd (ne ps refl)
 no_polys s k i (Values u w) es ne (Talked answer draws replies) st =
     let r = ready_for s k (suc i) answer draws replies es st in
-    ap WrongKind r.same_turn ∙ sym (values_at_polys s.circuit.nodes (length s.circuit.order) answer draws replies k i (coordinate s.points) (held_value s) (ValuesReply u w) r.ready refl)
+    ap next.WrongKind r.same_turn ∙ sym (ap next_of (values_at_polys s.circuit.nodes (length s.circuit.order) answer draws replies k i (coordinate s.points) (held_value s) (ValuesReply u w) r.ready refl))

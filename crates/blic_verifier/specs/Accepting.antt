@@ -7,7 +7,6 @@ use Rattle.blic_model.specs.Counts.{claims, bad}
 use Rattle.blic_claims.specs.Claims.{zero_point}
 use Rattle.blic_claims.specs.Turns.{Turn, Reply, turns}
 use Rattle.blic_verifier.specs.Soundness.{AreBadAt, IsBad, SomeDrawIsBad}
-use Rattle.blic_verifier.specs.SoundnessLaws.{AreElements}
 use Rattle.blic_verifier.specs.Verdict.{Talk, Silent, Talked}
 
 -- a wrong answer shows in a bad draw: one other than the root's value, and so one other than the truth that the root stands for;
@@ -22,12 +21,7 @@ pub record ShowsBadDraw (c : OrderedCircuit) (answer : Bool) (draws : List ℕ) 
       → All (λ t. AreBadAt c.nodes (length c.order) answer draws replies t (elements t)) (turns c.nodes (length c.order))
       → sum_by (λ t. length (elements t)) (turns c.nodes (length c.order)) ≤ bad c.nodes (length c.order)
 
--- the talk was accepted with answer b; its draws and replies are of elements
+-- the talk was accepted with answer b, and shows what that is worth
 abbrev pub IsWorth : OrderedCircuit → Bool → Talk → Type 0
 IsWorth c b Silent = ⊥
-IsWorth c b (Talked answer draws replies) = (b ≡ answer) × (AreElements draws replies → ShowsBadDraw c answer draws replies)
-
--- the talk was accepted with answer b, and shows what that is worth
-abbrev pub ShowsIn : OrderedCircuit → Bool → Talk → Type 0
-ShowsIn c b Silent = ⊥
-ShowsIn c b (Talked answer draws replies) = (b ≡ answer) × ShowsBadDraw c answer draws replies
+IsWorth c b (Talked answer draws replies) = (b ≡ answer) × ShowsBadDraw c answer draws replies

@@ -39,18 +39,6 @@ IsAt a (Awaits ask t n) = (a.ended ≡ None) × (a.draws.place ≡ n) × StandsF
 IsAt a (Ended e t) = a.ended ≡ Some e
 
 -- the ask that stands next at a position, or how the conversation has ended there
-abbrev pub Tells : Following → Position → Type 0
-Tells (Asks ask) p = (t : Talk) × (n : ℕ) × (p ≡ Awaits ask t n)
-Tells (Ends e) p = (t : Talk) × (p ≡ Ended e t)
-
--- private: what holds of every asker, with room for so many polynomials
-pub record IsPlaced (a : Asking) (capacity : ℕ) : Type 0 where
-  pub verifies : a.verifier.circuit ≡ a.about.circuit
-  pub room : 65536 ≤ capacity
-  pub position : Position
-  pub at : IsAt a position
-
--- private: the verifier and the draws stand at a position that goes on with an ask; or the conversation has ended
-abbrev pub IsFollowed : Verifying → DrawsOf → Position → Following → Type 0
-IsFollowed v d p (Asks ask) = (t : Talk) × (p ≡ Awaits ask t d.place) × StandsFor v t × IsWaiting v
-IsFollowed v d p (Ends e) = (t : Talk) × (p ≡ Ended e t)
+abbrev pub IsSaidAt : Following → Position → Type 0
+IsSaidAt (Asks ask) p = (t : Talk) × (n : ℕ) × (p ≡ Awaits ask t n)
+IsSaidAt (Ends e) p = (t : Talk) × (p ≡ Ended e t)

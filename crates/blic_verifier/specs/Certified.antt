@@ -4,7 +4,7 @@ use Rattle.blic_field.specs.Field.{modulus}
 use Rattle.blic_model.specs.Shape.{IsShaped}
 use Rattle.blic_messages.specs.Replies.{Said}
 use Rattle.blic_messages.specs.Reading.{IsReply}
-use Rattle.blic_verifier.specs.Accepting.{ShowsIn}
+use Rattle.blic_verifier.specs.Accepting.{IsWorth}
 use Rattle.blic_verifier.specs.Verdict.{Talk, IsAcceptedAs}
 use Rattle.blic_verifier.specs.Conversation.{Instance, Ended, position_after, beginning}
 use Rattle.blic_verifier.specs.declared.ending.Ending.TheVariants.{Certified}
@@ -18,4 +18,4 @@ abbrev pub CertifiedIsWorth : Type 0
 CertifiedIsWorth =
     (x : Instance) → IsShaped x.circuit.nodes (length x.circuit.order) → (draw : ℕ → ℕ) → ((n : ℕ) → draw n < modulus)
     → (readings : List (Option Said)) → AreReplies readings → (b : Bool) (talk : Talk) → position_after x draw (beginning x) readings ≡ Ended (Certified b) talk
-    → IsAcceptedAs x.circuit b talk × ShowsIn x.circuit b talk
+    → IsAcceptedAs x.circuit b talk × IsWorth x.circuit b talk

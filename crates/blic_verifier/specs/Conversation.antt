@@ -5,14 +5,12 @@ use Rattle.blic_messages.specs.Replies.{Said, Answer, Polys, Values, Refused}
 use Rattle.blic_messages.specs.declared.ask.Hello.{Hello}
 use Rattle.blic_messages.specs.declared.ask.Ask.{Ask}
 use Rattle.blic_messages.specs.declared.ask.Ask.TheVariants as asks
-use Rattle.blic_claims.specs.Turns.{Reply, no_reply, turns}
-use Rattle.blic_claims.specs.Turns.{Polys as PolysReply, Values as ValuesReply}
+use Rattle.blic_claims.specs.Turns.{no_reply, reply_by, turns}
 use Rattle.blic_claims.specs.Honest.{honest_answer, honest_replies}
-use Rattle.blic_verifier.specs.Verdict.{Talk, Silent, Talked, next_after, with_reply, with_draw}
+use Rattle.blic_verifier.specs.Verdict.{Talk, Silent, Talked, Verdict, next_after, with_reply, with_draw}
+use Rattle.blic_verifier.specs.Verdict as verdicts
 use Rattle.blic_verifier.specs.declared.ending.Ending.{Ending}
 use Rattle.blic_verifier.specs.declared.ending.Ending.TheVariants.{Certified, Rejected, WrongKind, WrongCount, ServerRefused, NotFrame}
-use Rattle.blic_verifier.specs.declared.next.Next.{Next}
-use Rattle.blic_verifier.specs.declared.next.Next.TheVariants as next
 
 -- what a conversation is about: a circuit, and the Hello that names it
 pub record Instance : Type 0 where
@@ -24,15 +22,14 @@ pub data Position : Type 0 where
   Awaits : Ask → Talk → ℕ → Position
   Ended : Ending → Talk → Position
 
--- after a reply that made the talk `t`, by what the verifier says of it; draw number n is `draw n`. `Over` is said after an end alone
-abbrev pub go_on : (ℕ → ℕ) → Talk → ℕ → Next → Position
-go_on draw t n next.Draw = Awaits (asks.Draw (draw n)) (with_draw t (draw n)) (suc n)
-go_on draw t n next.Go = Awaits asks.Go t n
-go_on draw t n (next.Done b) = Ended (Certified b) t
-go_on draw t n (next.Rejected place) = Ended (Rejected place) t
-go_on draw t n (next.WrongKind turn) = Ended (WrongKind turn) t
-go_on draw t n (next.WrongCount turn want got) = Ended (WrongCount turn want got) t
-go_on draw t n next.Over = Awaits asks.Bye t n
+-- after a reply that made the talk `t`, by what is said of it; draw number n is `draw n`
+abbrev pub go_on : (ℕ → ℕ) → Talk → ℕ → Verdict → Position
+go_on draw t n verdicts.Draw = Awaits (asks.Draw (draw n)) (with_draw t (draw n)) (suc n)
+go_on draw t n verdicts.Go = Awaits asks.Go t n
+go_on draw t n (verdicts.Done b) = Ended (Certified b) t
+go_on draw t n (verdicts.Rejected place) = Ended (Rejected place) t
+go_on draw t n (verdicts.WrongKind turn) = Ended (WrongKind turn) t
+go_on draw t n (verdicts.WrongCount turn want got) = Ended (WrongCount turn want got) t
 
 -- after one more reply, which is read as one of these kinds or as none
 abbrev pub read_on : Instance → (ℕ → ℕ) → Position → Option Said → Position
@@ -51,15 +48,10 @@ beginning x = Awaits (asks.Hello x.hello) Silent 0
 abbrev pub position_after : Instance → (ℕ → ℕ) → Position → List (Option Said) → Position
 position_after x draw p readings = fold (read_on x draw) p readings
 
--- a reply after the answer, as it is said
-abbrev pub said_of : Reply → Said
-said_of (PolysReply ps) = Polys ps
-said_of (ValuesReply u w) = Values u w
-
 -- the honest reply to a talk: the answer, and then what stands next under the draws
 abbrev pub honest_reply : Instance → Talk → Said
 honest_reply x Silent = Answer (honest_answer x.circuit.nodes (length x.circuit.order))
-honest_reply x (Talked b draws replies) = said_of (slice_index_or (honest_replies x.circuit.nodes (length x.circuit.order) draws (suc (length replies))) (length replies) no_reply)
+honest_reply x (Talked b draws replies) = reply_by Polys Values (slice_index_or (honest_replies x.circuit.nodes (length x.circuit.order) draws (suc (length replies))) (length replies) no_reply)
 
 -- each reply from this position on is the honest one, and none comes after the end
 abbrev pub AreHonest : Instance → (ℕ → ℕ) → Position → List (Option Said) → Type 0

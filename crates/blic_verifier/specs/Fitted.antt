@@ -7,7 +7,7 @@ use Rattle.blic_claims.specs.Points.{PointTable}
 use Rattle.blic_claims.specs.Turns.{Reply, turns}
 use Rattle.blic_verifier.specs.Verdict.{is_verdict}
 use Rattle.blic_verifier.specs.Standing.{Verifying, is_over, wants_draw}
-use Rattle.blic_verifier.specs.Holding.{HasRoom, WalksTo}
+use Rattle.blic_verifier.specs.Holding.{HasClaimRoom, WalksTo}
 use Rattle.blic_verifier.specs.declared.next.Next.{Next}
 use Rattle.blic_verifier.specs.declared.next.Next.TheVariants.{Draw}
 use Rattle.blic_verifier.specs.declared.stage.Stage.{Stage}
@@ -29,7 +29,7 @@ HasFewTurns circuit = length (turns circuit.nodes (length circuit.order)) < 9223
 -- what holds of a verifier's parts: there is room for `kept` polynomials
 pub record IsFitted (circuit : OrderedCircuit) (layout : Places) (points : PointTable) (values : List ℕ) (kept : ℕ) (stage : Stage) : Type 0 where
   pub laid_out : layout ≡ layout_of circuit
-  pub room : HasRoom circuit points values
+  pub room : HasClaimRoom circuit points values
   pub most : HasMostClaims circuit kept
   pub at_work : StageFits circuit stage
   pub few_turns : HasFewTurns circuit

@@ -2,17 +2,16 @@
 use Rattle.std.specs.Prelude.{ℕ, suc, ◌+◌, ◌≡◌, ◌<◌, Bool, true, List, slice_index_or, length, sum_by, Option, Some, None}
 use Rattle.blic_field.specs.Field.{mul, or}
 use Rattle.blic_model.specs.declared.node.Node.{Node}
-use Rattle.blic_model.specs.declared.node.Node.TheVariants.{And, Or}
+use Rattle.blic_model.specs.declared.node.Node.TheVariants.{Or}
 use Rattle.blic_model.specs.Circuit.{OrderedCircuit, node_at, below}
 use Rattle.blic_model.specs.Counts.{is_binary, claims}
 use Rattle.blic_claims.specs.Places.{layout_of, row_at}
 use Rattle.blic_claims.specs.Points.{PointTable, coordinate}
 use Rattle.blic_claims.specs.Turns.{Reply}
 use Rattle.blic_verifier.specs.Standing.{IsReady}
-use Rattle.blic_verifier.specs.Verdict.{judged}
+use Rattle.blic_verifier.specs.Verdict.{Rejected, judged}
 use Rattle.blic_verifier.specs.Walking.{IsWalking}
 use Rattle.blic_verifier.specs.declared.place.Part.TheVariants.{Leaf}
-use Rattle.blic_verifier.specs.declared.next.Next.TheVariants.{Rejected}
 use Rattle.blic_verifier.specs.declared.walk.Taken.{Taken}
 use Rattle.blic_verifier.specs.declared.walk.Taken.TheVariants.{Binary as IsBinary, Fault as HasFault, Done as IsDone}
 use Rattle.blic_verifier.specs.declared.walk.Walked.{Walked}
@@ -28,7 +27,7 @@ abbrev pub value_in : PointTable → List ℕ → ℕ → ℕ → ℕ
 value_in points values k c = slice_index_or values ((row_at points.rows k).first + c) 0
 
 -- there is room for all claims of the circuit
-pub record HasRoom (circuit : OrderedCircuit) (points : PointTable) (values : List ℕ) : Type 0 where
+pub record HasClaimRoom (circuit : OrderedCircuit) (points : PointTable) (values : List ℕ) : Type 0 where
   pub same_rows : points.rows ≡ (layout_of circuit).rows
   pub enough : length values ≡ sum_by (claims circuit.nodes) (below (length circuit.nodes))
 
@@ -36,12 +35,6 @@ pub record HasRoom (circuit : OrderedCircuit) (points : PointTable) (values : Li
 abbrev pub WalksTo : OrderedCircuit → Bool → List ℕ → List Reply → ℕ → PointTable → List ℕ → Type 0
 WalksTo circuit answer draws replies k points values =
     IsWalking circuit.nodes (length circuit.order) answer draws replies k (coordinate points) (value_in points values)
-
--- the children of a binary node
-abbrev pub operands_of : Node → ℕ × ℕ
-operands_of (And a b) = (a, b)
-operands_of (Or a b) = (a, b)
-operands_of _ = (0, 0)
 
 -- what its children's values give a binary node
 abbrev pub joined : Node → ℕ → ℕ → ℕ

@@ -6,6 +6,7 @@ pub mod Conversation
 pub mod Fitted
 pub mod Holding
 pub mod HonestLaws
+pub mod Placed
 pub mod Soundness
 pub mod SoundnessLaws
 pub mod Standing

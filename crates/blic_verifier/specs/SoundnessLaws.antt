@@ -7,10 +7,12 @@ use Rattle.blic_model.specs.Circuit.{OrderedCircuit, root, free}
 use Rattle.blic_model.specs.Shape.{IsShaped}
 use Rattle.blic_model.specs.Value.{RootIs, bit, value}
 use Rattle.blic_model.specs.Counts.{claims, bad}
+use Rattle.blic_messages.specs.Replies.{Said, Answer, Polys as SaidPolys, Values as SaidValues, Refused}
 use Rattle.blic_claims.specs.Claims.{zero_point}
 use Rattle.blic_claims.specs.Turns.{Turn, Reply, Polys, Values, draw_number, polys_number, no_reply, turns}
 use Rattle.blic_verifier.specs.Acceptance.{Passes}
 use Rattle.blic_verifier.specs.Soundness.{AreBadAt, IsBad, SomeDrawIsBad}
+use Rattle.blic_verifier.specs.Verdict.{Talk, Silent, Talked}
 
 -- the numbers of a reply are elements
 abbrev pub ReplyHasElements : Reply → Type 0
@@ -20,6 +22,18 @@ ReplyHasElements (Values u w) = (u < modulus) × (w < modulus)
 -- the draws and the replies are of elements
 abbrev pub AreElements : List ℕ → List Reply → Type 0
 AreElements draws replies = All (λ r. r < modulus) draws × All ReplyHasElements replies
+
+-- so are those of a talk
+abbrev pub TalkHasElements : Talk → Type 0
+TalkHasElements Silent = Unit {0}
+TalkHasElements (Talked answer draws replies) = AreElements draws replies
+
+-- and the numbers of what is said are elements
+abbrev pub SaidHasElements : Said → Type 0
+SaidHasElements (Answer b) = Unit {0}
+SaidHasElements (SaidPolys ps) = All HasElements ps
+SaidHasElements (SaidValues u w) = (u < modulus) × (w < modulus)
+SaidHasElements (Refused r) = Unit {0}
 
 -- an accepted conversation whose answer isn't the root's value has a bad draw
 abbrev pub WrongValueHasBadDraw : Type 0

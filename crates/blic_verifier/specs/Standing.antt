@@ -10,6 +10,7 @@ use Rattle.blic_claims.specs.Held.{AreHeld, HasPoints}
 use Rattle.blic_claims.specs.Places.{row_at}
 use Rattle.blic_claims.specs.Points.{PointTable, coordinate}
 use Rattle.blic_verifier.specs.Acceptance.{no_poly, sent, value_at}
+use Rattle.blic_verifier.specs.SoundnessLaws.{AreElements}
 use Rattle.blic_verifier.specs.Verdict.{Talk, Silent, Talked, fault_upto}
 use Rattle.blic_verifier.specs.declared.stage.Stage.{Stage}
 use Rattle.blic_verifier.specs.declared.stage.Stage.TheVariants.{Fresh, Ready, Drawing, Over}
@@ -71,10 +72,15 @@ StandsAt v (Drawing k i) answer draws replies =
     × IsDrawing v.circuit.nodes (length v.circuit.order) answer draws replies k i (coordinate v.points) (held_value v) v.polys
 StandsAt v Over answer draws replies = Unit {0}
 
--- the verifier stands for what was said; after a verdict nothing is asked of it
+-- private: what the verifier holds is that of what was said; after a verdict nothing is asked of it
+abbrev pub HoldsFor : Verifying → Talk → Type 0
+HoldsFor v Silent = (v.stage ≡ Fresh) × (v.turn ≡ 0)
+HoldsFor v (Talked answer draws replies) = StandsAt v v.stage answer draws replies
+
+-- the verifier stands for what was said, whose draws and replies are of elements
 abbrev pub StandsFor : Verifying → Talk → Type 0
-StandsFor v Silent = (v.stage ≡ Fresh) × (v.turn ≡ 0)
-StandsFor v (Talked answer draws replies) = StandsAt v v.stage answer draws replies
+StandsFor v Silent = HoldsFor v Silent
+StandsFor v (Talked answer draws replies) = HoldsFor v (Talked answer draws replies) × AreElements draws replies
 
 -- whether a verdict was given
 abbrev pub is_over : Stage → Bool

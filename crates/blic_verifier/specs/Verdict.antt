@@ -10,7 +10,25 @@ use Rattle.blic_model.specs.Circuit.{OrderedCircuit}
 use Rattle.blic_verifier.specs.Acceptance.{Check, checks, fails, Passes}
 use Rattle.blic_verifier.specs.declared.place.Place.{Place}
 use Rattle.blic_verifier.specs.declared.next.Next.{Next}
-use Rattle.blic_verifier.specs.declared.next.Next.TheVariants.{Draw, Go, Done, Rejected, WrongKind, WrongCount}
+use Rattle.blic_verifier.specs.declared.next.Next.TheVariants as next
+
+-- what is said of a reply: which ask stands next, or how the conversation ends
+pub data Verdict : Type 0 where
+  Draw : Verdict
+  Go : Verdict
+  Done : Bool → Verdict
+  Rejected : Place → Verdict
+  WrongKind : ℕ → Verdict
+  WrongCount : ℕ → ℕ → ℕ → Verdict
+
+-- as a verifier says it
+abbrev pub next_of : Verdict → Next
+next_of Draw = next.Draw
+next_of Go = next.Go
+next_of (Done b) = next.Done b
+next_of (Rejected place) = next.Rejected place
+next_of (WrongKind turn) = next.WrongKind turn
+next_of (WrongCount turn want got) = next.WrongCount turn want got
 
 -- what was said so far: nothing, or an answer with draws and replies
 pub data Talk : Type 0 where
@@ -29,7 +47,7 @@ abbrev pub place_of : Check → Place
 place_of c = record { node = c.node; part = c.part; claim = c.claim }
 
 -- of replies that fit their turns: the first condition that fails, else what stands next
-abbrev pub judged : List Node → ℕ → Bool → List ℕ → List Reply → Next
+abbrev pub judged : List Node → ℕ → Bool → List ℕ → List Reply → Verdict
 judged nodes levels answer draws replies =
     elim (fault_upto nodes levels (transcript nodes levels answer draws replies) (suc (length replies))) [
       | Some c ↦ Rejected (place_of c)
@@ -41,20 +59,20 @@ abbrev pub told_count : ℕ → ℕ
 told_count n = min n 4294967295
 
 -- a reply that doesn't fit its turn, whose number is t, is refused before anything is checked
-abbrev pub judged_at : List Node → ℕ → Turn → Reply → Next → Next
-judged_at nodes t (ForPolys k i) (PolysReply ps) next = cond (length ps == claims nodes k) next (WrongCount t (claims nodes k) (told_count (length ps)))
-judged_at nodes t (ForPolys k i) (ValuesReply u w) next = WrongKind t
-judged_at nodes t (ForValues k) (PolysReply ps) next = WrongKind t
-judged_at nodes t (ForValues k) (ValuesReply u w) next = next
+abbrev pub judged_at : List Node → ℕ → Turn → Reply → Verdict → Verdict
+judged_at nodes t (ForPolys k i) (PolysReply ps) v = cond (length ps == claims nodes k) v (WrongCount t (claims nodes k) (told_count (length ps)))
+judged_at nodes t (ForPolys k i) (ValuesReply u w) v = WrongKind t
+judged_at nodes t (ForValues k) (PolysReply ps) v = WrongKind t
+judged_at nodes t (ForValues k) (ValuesReply u w) v = v
 
 -- one more reply after the answer, the draws and the replies
-unfoldable pub verdict : List Node → ℕ → Bool → List ℕ → List Reply → Reply → Next
+unfoldable pub verdict : List Node → ℕ → Bool → List ℕ → List Reply → Reply → Verdict
 verdict nodes levels answer draws replies reply =
     judged_at nodes (suc (length replies)) (slice_index_or (turns nodes levels) (length replies) (ForValues 0)) reply
     (judged nodes levels answer draws (replies ++ reply ∷ []))
 
 -- the answer is told first, and once
-abbrev pub next_after : List Node → ℕ → Talk → Said → Next
+abbrev pub next_after : List Node → ℕ → Talk → Said → Verdict
 next_after nodes levels Silent (Answer b) = judged nodes levels b [] []
 next_after nodes levels Silent (Polys ps) = WrongKind 0
 next_after nodes levels Silent (Values u w) = WrongKind 0
@@ -89,14 +107,14 @@ with_draw (Talked b draws replies) r = Talked b (draws ++ r ∷ []) replies
 
 -- whether the reply was of the kind and length that stood there
 abbrev pub is_in_turn : Next → Bool
-is_in_turn (WrongKind t) = false
-is_in_turn (WrongCount t want got) = false
+is_in_turn (next.WrongKind t) = false
+is_in_turn (next.WrongCount t want got) = false
 is_in_turn _ = true
 
 -- whether it ends the conversation
 abbrev pub is_verdict : Next → Bool
-is_verdict Draw = false
-is_verdict Go = false
+is_verdict next.Draw = false
+is_verdict next.Go = false
 is_verdict _ = true
 
 -- the whole talk is accepted, with this answer

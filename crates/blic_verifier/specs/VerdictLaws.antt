@@ -6,8 +6,7 @@ use Rattle.blic_model.specs.Counts.{draws as draw_count}
 use Rattle.blic_claims.specs.Claims.{Transcript}
 use Rattle.blic_claims.specs.Turns.{Reply, Fits, turns, transcript, is_polys}
 use Rattle.blic_verifier.specs.Acceptance.{Check, Passes, first_fault}
-use Rattle.blic_verifier.specs.Verdict.{judged, fault_upto}
-use Rattle.blic_verifier.specs.declared.next.Next.TheVariants.{Done}
+use Rattle.blic_verifier.specs.Verdict.{Done, judged, fault_upto}
 
 -- of an answer, all draws and all replies, which fit their turns, it is said that the answer stands exactly where they pass
 abbrev pub DoneIsAcceptance : Type 0

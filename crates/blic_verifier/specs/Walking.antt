@@ -1,4 +1,4 @@
--- A verifier between two binary nodes.
+-- Private: a verifier between two binary nodes.
 use Rattle.std.specs.Prelude.{ℕ, suc, ◌≡◌, ◌<◌, ◌≤◌, Bool, List, length, filter, find, None, nat_lt}
 use Rattle.blic_model.specs.declared.node.Node.{Node}
 use Rattle.blic_model.specs.Circuit.{node_at}

@@ -7,12 +7,13 @@ ghost use Rattle.blic_messages.specs.Replies.{Said, said};
 ghost use Rattle.blic_messages.specs.declared.ask.Hello.{Hello as HelloOf};
 ghost use Rattle.blic_messages.specs.declared.ask.Ask.{Ask as AskOf};
 ghost use Rattle.blic_messages.specs.declared.ask.Ask.TheVariants.{Hello as AskHello};
-ghost use Rattle.blic_verifier.specs.Asking.{IsAt, IsFollowed, IsWaiting, Tells};
+ghost use Rattle.blic_verifier.specs.Asking.{IsAt, IsWaiting, IsSaidAt};
+ghost use Rattle.blic_verifier.specs.Placed.{IsFollowed};
 ghost use Rattle.blic_verifier.specs.Conversation.{Position, Awaits, beginning, go_on as goes_on, read_on};
 ghost use Rattle.blic_verifier.specs.declared.ending.Ending.{Ending as EndingOf};
 ghost use Rattle.blic_verifier.specs.Fitted.{Agrees};
 ghost use Rattle.blic_verifier.specs.Standing.{StandsFor};
-ghost use Rattle.blic_verifier.specs.Verdict.{Talk, is_in_turn};
+ghost use Rattle.blic_verifier.specs.Verdict.{Talk, Verdict, is_in_turn, next_of};
 
 use crate::ending::Ending;
 use crate::next::Next;
@@ -57,7 +58,8 @@ pub struct Asker<'c> {
 
 impl<'c> Model for Asker<'c> {
     ghost use Rattle.std.specs.Prelude.{length};
-    ghost use Rattle.blic_verifier.specs.Asking.{Asking, IsPlaced};
+    ghost use Rattle.blic_verifier.specs.Asking.{Asking};
+    ghost use Rattle.blic_verifier.specs.Placed.{IsPlaced};
 
     ghost Value = { Asking };
 
@@ -67,7 +69,8 @@ impl<'c> Model for Asker<'c> {
 }
 
 impl<'c> Asker<'c> {
-    /// An asker about the circuit, which `hello` names. No other call takes memory.
+    /// An asker about the circuit, which `hello` names, at the beginning of a conversation with the draws of 32 zeros. No other call takes
+    /// memory.
     pub fn new(
         alloc: Global,
         circuit: &'c Circuit,
@@ -76,6 +79,7 @@ impl<'c> Asker<'c> {
     ) -> Result<Asker<'c>, NoMem>
         requires { layout.now ≡ layout_of circuit.now }
         ensures about { IfOk result (λ a. a.about ≡ record { circuit = circuit.now; hello = hello }) }
+        ensures at { IfOk result (λ a. IsAt a (beginning a.about)) }
     {
         let none = Poly2 {
             c0: Fe::ZERO,
@@ -116,7 +120,7 @@ impl<'c> Asker<'c> {
         ensures source { self.new.draws.source ≡ self.old.draws.source }
         ensures over { (e : EndingOf) → self.old.ended ≡ Some e → (result ≡ Following.Ends e) × (self.new ≡ self.old) }
         ensures follows { self.old.ended ≡ None → (says : Option Said) × Reads frame.now says × ((p : Position) → IsAt self.old p
-            → IsAt self.new (read_on self.old.about (draw_from self.old.draws.source) p says) × Tells result (read_on self.old.about (draw_from self.old.draws.source) p says)) }
+            → IsAt self.new (read_on self.old.about (draw_from self.old.draws.source) p says) × IsSaidAt result (read_on self.old.about (draw_from self.old.draws.source) p says)) }
     {
         claims_law();
         self.circuit.is_within_limits();
@@ -207,7 +211,8 @@ fn go_on<L: Ledger>(
     requires going { next ≢ Next.Over }
     ensures circuit { verifier.new.circuit ≡ verifier.old.circuit }
     ensures source { draws.new.source ≡ draws.old.source }
-    ensures follows { (t : Talk) → (is_in_turn next ≡ true → StandsFor verifier.old t) → IsFollowed verifier.new draws.new (goes_on (draw_from draws.old.source) t draws.old.place next) result }
+    ensures follows { (y : Verdict) → next ≡ next_of y → (t : Talk) → (is_in_turn next ≡ true → StandsFor verifier.old t)
+        → IsFollowed verifier.new draws.new (goes_on (draw_from draws.old.source) t draws.old.place y) result }
 {
     match next {
         Next::Draw => {

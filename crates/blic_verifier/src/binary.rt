@@ -1,7 +1,8 @@
 // Binary nodes: their operands, and what the operands' values give.
 ghost use Rattle.std.specs.Prelude.{◌≡◌, ◌+◌, ℕ, true};
 ghost use Rattle.blic_model.specs.Counts.{is_binary as is_binary_node};
-ghost use Rattle.blic_verifier.specs.Holding.{joined, operands_of};
+ghost use Rattle.blic_claims.specs.Honest.{operands as operands_of};
+ghost use Rattle.blic_verifier.specs.Holding.{joined};
 
 use blic_basic::Steps;
 use blic_field::Fe;

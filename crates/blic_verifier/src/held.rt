@@ -8,7 +8,7 @@ ghost use Rattle.blic_claims.specs.Places.{layout_of, row_at};
 ghost use Rattle.blic_claims.specs.Points.{coordinate, Draws};
 ghost use Rattle.blic_claims.specs.Turns.{Reply, Values};
 ghost use Rattle.blic_verifier.specs.Acceptance.{no_poly};
-ghost use Rattle.blic_verifier.specs.Holding.{IsFirstDifference, HasRoom, HasMet, WalksTo};
+ghost use Rattle.blic_verifier.specs.Holding.{IsFirstDifference, HasClaimRoom, HasMet, WalksTo};
 
 use crate::binary::operands;
 use blic_basic::{NoMem, Steps};
@@ -30,7 +30,7 @@ impl Held {
     /// Room for all claims of a circuit.
     pub fn new(alloc: Global, circuit: &Circuit, layout: &Layout) -> Result<Held, NoMem>
         requires { layout.now ≡ layout_of circuit.now }
-        ensures { IfOk result (λ h. HasRoom circuit.now h.points h.values.items) }
+        ensures { IfOk result (λ h. HasClaimRoom circuit.now h.points h.values.items) }
     {
         circuit.is_within_limits();
         let points = Points::new(alloc, circuit, layout)?;
@@ -133,10 +133,10 @@ impl Held {
     /// Hands down the claims of a binary node, with these values of its operands.
     pub fn hand_down(&mut self, circuit: &Circuit, layout: &Layout, node: u32, u: Fe, w: Fe)
         requires layout { layout.now ≡ layout_of circuit.now }
-        requires room { HasRoom circuit.now self.old.points self.old.values.items }
+        requires room { HasClaimRoom circuit.now self.old.points self.old.values.items }
         requires node { node < length circuit.now.nodes }
         requires kind { is_binary (node_at circuit.now.nodes node) ≡ true }
-        ensures room { HasRoom circuit.now self.new.points self.new.values.items }
+        ensures room { HasClaimRoom circuit.now self.new.points self.new.values.items }
         ensures taken { (answer : Bool) (draws : List ℕ) (replies : List Reply)
             → HasMet circuit.now answer draws replies node self.old.points self.old.values.items u w
             → WalksTo circuit.now answer draws (replies ++ Values u w ∷ []) node self.new.points self.new.values.items }

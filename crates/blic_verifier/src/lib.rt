@@ -3,6 +3,7 @@
 
 mod asker;
 mod binary;
+mod elements;
 mod ending;
 mod held;
 mod honest;

@@ -4,11 +4,12 @@ ghost use Rattle.blic_claims.specs.Places.{layout_of};
 ghost use Rattle.blic_claims.specs.Turns.{Reply as ReplyOf};
 ghost use Rattle.blic_messages.specs.Replies.{said, Polys, Values};
 ghost use Rattle.blic_verifier.specs.Accepting.{IsWorth};
-ghost use Rattle.blic_verifier.specs.Verdict.{products_for, Talk, Silent, Talked, judged, next_after, with_reply, with_draw, is_in_turn, is_verdict, IsAcceptedAs};
-ghost use Rattle.blic_verifier.specs.Standing.{StandsAt, StandsFor, is_over, wants_draw as wants_draw_at, claims_waiting};
+ghost use Rattle.blic_verifier.specs.Verdict.{products_for, Talk, Silent, Talked, judged, next_after, next_of, with_reply, with_draw, is_in_turn, is_verdict, IsAcceptedAs};
+ghost use Rattle.blic_verifier.specs.Standing.{HoldsFor, StandsAt, StandsFor, is_over, wants_draw as wants_draw_at, claims_waiting};
 ghost use Rattle.blic_verifier.specs.Fitted.{Agrees, IsOnWalk};
 
 use crate::binary::combined;
+use crate::elements::{has_elements, is_element};
 use crate::held::Held;
 use crate::kept::keep;
 use crate::next::Next;
@@ -91,7 +92,7 @@ impl<'c> Verifier<'c> {
         ensures circuit { self.new.circuit ≡ self.old.circuit }
         ensures over { is_over self.old.stage ≡ true → (result ≡ Next.Over) × (self.new ≡ self.old) }
         ensures says { is_over self.old.stage ≡ false → (t : Talk) → StandsFor self.old t
-            → result ≡ next_after self.old.circuit.nodes (length self.old.circuit.order) t (said reply.now) }
+            → result ≡ next_of (next_after self.old.circuit.nodes (length self.old.circuit.order) t (said reply.now)) }
         ensures taken { is_over self.old.stage ≡ false → (t : Talk) → StandsFor self.old t → is_in_turn result ≡ true
             → StandsFor self.new (with_reply t (said reply.now)) }
         ensures accepted { is_over self.old.stage ≡ false → (t : Talk) → StandsFor self.old t → (b : Bool) → result ≡ Next.Done b
@@ -104,19 +105,20 @@ impl<'c> Verifier<'c> {
         ensures at_least { steps.old ≤ steps.new }
     {
         self.circuit.is_within_limits();
+        has_elements(reply);
         self.judge(reply, steps)
     }
 
-    // The same, but for what acceptance is worth.
+    // The same of what is held, but for what acceptance is worth.
     fn judge<L: Ledger>(&mut self, reply: &Reply<'_>, steps: &mut Steps<L>) -> Next
         requires { wants_draw_at self.old.stage ≡ false }
         ensures circuit { self.new.circuit ≡ self.old.circuit }
         ensures over { is_over self.old.stage ≡ true → (result ≡ Next.Over) × (self.new ≡ self.old) }
-        ensures says { is_over self.old.stage ≡ false → (t : Talk) → StandsFor self.old t
-            → result ≡ next_after self.old.circuit.nodes (length self.old.circuit.order) t (said reply.now) }
-        ensures taken { is_over self.old.stage ≡ false → (t : Talk) → StandsFor self.old t → is_in_turn result ≡ true
-            → StandsFor self.new (with_reply t (said reply.now)) }
-        ensures accepted { is_over self.old.stage ≡ false → (t : Talk) → StandsFor self.old t → (b : Bool) → result ≡ Next.Done b
+        ensures says { is_over self.old.stage ≡ false → (t : Talk) → HoldsFor self.old t
+            → result ≡ next_of (next_after self.old.circuit.nodes (length self.old.circuit.order) t (said reply.now)) }
+        ensures taken { is_over self.old.stage ≡ false → (t : Talk) → HoldsFor self.old t → is_in_turn result ≡ true
+            → HoldsFor self.new (with_reply t (said reply.now)) }
+        ensures accepted { is_over self.old.stage ≡ false → (t : Talk) → HoldsFor self.old t → (b : Bool) → result ≡ Next.Done b
             → IsAcceptedAs self.old.circuit b (with_reply t (said reply.now)) }
         ensures draws { IsTrue (wants_draw_at self.new.stage) ↔ (result ≡ Next.Draw) }
         ensures ends { is_over self.new.stage ≡ is_verdict result }
@@ -154,6 +156,7 @@ impl<'c> Verifier<'c> {
         ensures at_most { steps.new ≤ steps.old + 2 * claims_waiting self.old.circuit.nodes self.old.stage }
         ensures at_least { steps.old ≤ steps.new }
     {
+        is_element(r);
         if let Stage::Drawing { node, level } = self.stage {
             let row = self.layout.row(node);
             self.held.draw(node, row, level, &self.polys, r, steps);
@@ -188,7 +191,7 @@ impl<'c> Verifier<'c> {
     fn take_answer(&mut self, answer: bool) -> Next
         requires { self.old.stage ≡ Stage.Fresh }
         ensures circuit { self.new.circuit ≡ self.old.circuit }
-        ensures says { result ≡ judged self.old.circuit.nodes (length self.old.circuit.order) answer [] [] }
+        ensures says { result ≡ next_of (judged self.old.circuit.nodes (length self.old.circuit.order) answer [] []) }
         ensures stands { StandsAt self.new self.new.stage answer [] [] }
         ensures accepted { (b : Bool) → result ≡ Next.Done b → IsAcceptedAs self.old.circuit b (Talked answer [] []) }
         ensures agrees { Agrees result self.new.stage }
@@ -211,8 +214,8 @@ impl<'c> Verifier<'c> {
     ) -> Next
         requires { self.old.stage ≡ Stage.Ready node (level + 1) }
         ensures circuit { self.new.circuit ≡ self.old.circuit }
-        ensures says { (t : Talk) → StandsFor self.old t → result ≡ next_after self.old.circuit.nodes (length self.old.circuit.order) t (Polys polys.now) }
-        ensures taken { (t : Talk) → StandsFor self.old t → is_in_turn result ≡ true → StandsFor self.new (with_reply t (Polys polys.now)) }
+        ensures says { (t : Talk) → HoldsFor self.old t → result ≡ next_of (next_after self.old.circuit.nodes (length self.old.circuit.order) t (Polys polys.now)) }
+        ensures taken { (t : Talk) → HoldsFor self.old t → is_in_turn result ≡ true → HoldsFor self.new (with_reply t (Polys polys.now)) }
         ensures not_done { (b : Bool) → result ≡ Next.Done b → ⊥ }
         ensures agrees { Agrees result self.new.stage }
         ensures at_most { steps.new ≤ steps.old + length polys.now }
@@ -236,9 +239,9 @@ impl<'c> Verifier<'c> {
     fn take_values<L: Ledger>(&mut self, node: u32, u: Fe, w: Fe, steps: &mut Steps<L>) -> Next
         requires { self.old.stage ≡ Stage.Ready node 0 }
         ensures circuit { self.new.circuit ≡ self.old.circuit }
-        ensures says { (t : Talk) → StandsFor self.old t → result ≡ next_after self.old.circuit.nodes (length self.old.circuit.order) t (Values u w) }
-        ensures taken { (t : Talk) → StandsFor self.old t → StandsFor self.new (with_reply t (Values u w)) }
-        ensures accepted { (t : Talk) → StandsFor self.old t → (b : Bool) → result ≡ Next.Done b → IsAcceptedAs self.old.circuit b (with_reply t (Values u w)) }
+        ensures says { (t : Talk) → HoldsFor self.old t → result ≡ next_of (next_after self.old.circuit.nodes (length self.old.circuit.order) t (Values u w)) }
+        ensures taken { (t : Talk) → HoldsFor self.old t → HoldsFor self.new (with_reply t (Values u w)) }
+        ensures accepted { (t : Talk) → HoldsFor self.old t → (b : Bool) → result ≡ Next.Done b → IsAcceptedAs self.old.circuit b (with_reply t (Values u w)) }
         ensures agrees { Agrees result self.new.stage }
         ensures at_most { steps.new ≤ steps.old + 1 }
         ensures at_least { steps.old ≤ steps.new }
@@ -262,7 +265,7 @@ impl<'c> Verifier<'c> {
         requires { top ≤ length self.old.circuit.nodes }
         ensures circuit { self.new.circuit ≡ self.old.circuit }
         ensures says { (answer : Bool) (draws : List ℕ) (replies : List ReplyOf) → IsOnWalk self.old answer draws replies top
-            → result ≡ judged self.old.circuit.nodes (length self.old.circuit.order) answer draws replies }
+            → result ≡ next_of (judged self.old.circuit.nodes (length self.old.circuit.order) answer draws replies) }
         ensures stands { (answer : Bool) (draws : List ℕ) (replies : List ReplyOf) → IsOnWalk self.old answer draws replies top
             → StandsAt self.new self.new.stage answer draws replies }
         ensures accepted { (answer : Bool) (draws : List ℕ) (replies : List ReplyOf) → IsOnWalk self.old answer draws replies top

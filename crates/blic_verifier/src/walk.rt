@@ -4,7 +4,7 @@ ghost use Rattle.blic_field.specs.Field.{sub};
 ghost use Rattle.blic_model.specs.Circuit.{node_at};
 ghost use Rattle.blic_claims.specs.Places.{layout_of};
 ghost use Rattle.blic_claims.specs.Turns.{Reply};
-ghost use Rattle.blic_verifier.specs.Holding.{HasRoom, WalksTo, IsTakenRight, IsTakenAs, EndsRight, EndsAs, leaf_taken};
+ghost use Rattle.blic_verifier.specs.Holding.{HasClaimRoom, WalksTo, IsTakenRight, IsTakenAs, EndsRight, EndsAs, leaf_taken};
 
 use crate::held::Held;
 use crate::place::{Part, Place};
@@ -30,9 +30,9 @@ impl Held {
     /// Takes the nodes below `top`, down to the next binary node.
     pub fn walk(&mut self, circuit: &Circuit, layout: &Layout, top: u32) -> Walked
         requires layout { layout.now ≡ layout_of circuit.now }
-        requires room { HasRoom circuit.now self.old.points self.old.values.items }
+        requires room { HasClaimRoom circuit.now self.old.points self.old.values.items }
         requires top { top ≤ length circuit.now.nodes }
-        ensures room { HasRoom circuit.now self.new.points self.new.values.items }
+        ensures room { HasClaimRoom circuit.now self.new.points self.new.values.items }
         ensures right { EndsRight circuit.now result }
         ensures ends { (answer : Bool) (draws : List ℕ) (replies : List Reply)
             → WalksTo circuit.now answer draws replies top self.old.points self.old.values.items
@@ -52,9 +52,9 @@ impl Held {
 
     fn take_node(&mut self, circuit: &Circuit, layout: &Layout, node: u32) -> Taken
         requires layout { layout.now ≡ layout_of circuit.now }
-        requires room { HasRoom circuit.now self.old.points self.old.values.items }
+        requires room { HasClaimRoom circuit.now self.old.points self.old.values.items }
         requires node { node < length circuit.now.nodes }
-        ensures room { HasRoom circuit.now self.new.points self.new.values.items }
+        ensures room { HasClaimRoom circuit.now self.new.points self.new.values.items }
         ensures right { IsTakenRight circuit.now node result }
         ensures taken { (answer : Bool) (draws : List ℕ) (replies : List Reply)
             → WalksTo circuit.now answer draws replies (suc node) self.old.points self.old.values.items
@@ -77,7 +77,7 @@ impl Held {
 
     fn take_const(&self, circuit: &Circuit, layout: &Layout, node: u32, bit: bool) -> Taken
         requires layout { layout.now ≡ layout_of circuit.now }
-        requires room { HasRoom circuit.now self.now.points self.now.values.items }
+        requires room { HasClaimRoom circuit.now self.now.points self.now.values.items }
         requires node { node < length circuit.now.nodes }
         requires kind { node_at circuit.now.nodes node ≡ Node.Const bit }
         ensures right { IsTakenRight circuit.now node result }
@@ -91,7 +91,7 @@ impl Held {
 
     fn take_var(&self, circuit: &Circuit, layout: &Layout, node: u32) -> Taken
         requires layout { layout.now ≡ layout_of circuit.now }
-        requires room { HasRoom circuit.now self.now.points self.now.values.items }
+        requires room { HasClaimRoom circuit.now self.now.points self.now.values.items }
         requires node { node < length circuit.now.nodes }
         requires kind { (x : ℕ) × (node_at circuit.now.nodes node ≡ Node.Var x) }
         ensures right { IsTakenRight circuit.now node result }
@@ -105,10 +105,10 @@ impl Held {
 
     fn take_not(&mut self, circuit: &Circuit, layout: &Layout, node: u32, child: u32)
         requires layout { layout.now ≡ layout_of circuit.now }
-        requires room { HasRoom circuit.now self.old.points self.old.values.items }
+        requires room { HasClaimRoom circuit.now self.old.points self.old.values.items }
         requires node { node < length circuit.now.nodes }
         requires kind { node_at circuit.now.nodes node ≡ Node.Not child }
-        ensures room { HasRoom circuit.now self.new.points self.new.values.items }
+        ensures room { HasClaimRoom circuit.now self.new.points self.new.values.items }
         ensures taken { (answer : Bool) (draws : List ℕ) (replies : List Reply)
             → WalksTo circuit.now answer draws replies (suc node) self.old.points self.old.values.items
             → WalksTo circuit.now answer draws replies node self.new.points self.new.values.items }
@@ -122,10 +122,10 @@ impl Held {
 
     fn take_fix(&mut self, circuit: &Circuit, layout: &Layout, node: u32, child: u32)
         requires layout { layout.now ≡ layout_of circuit.now }
-        requires room { HasRoom circuit.now self.old.points self.old.values.items }
+        requires room { HasClaimRoom circuit.now self.old.points self.old.values.items }
         requires node { node < length circuit.now.nodes }
         requires kind { (x : ℕ) × (b : Bool) × (node_at circuit.now.nodes node ≡ Node.Fix x b child) }
-        ensures room { HasRoom circuit.now self.new.points self.new.values.items }
+        ensures room { HasClaimRoom circuit.now self.new.points self.new.values.items }
         ensures taken { (answer : Bool) (draws : List ℕ) (replies : List Reply)
             → WalksTo circuit.now answer draws replies (suc node) self.old.points self.old.values.items
             → WalksTo circuit.now answer draws replies node self.new.points self.new.values.items }

@@ -2,7 +2,7 @@ use Rattle.std.proofs.Common.{arith, refl, sym, ◌∙◌, ap}
 use Rattle.std.specs.Prelude.{map}
 use Rattle.blic_claims.specs.Points.{stored_poly}
 use Rattle.blic_engine.specs.Costs.{most_products}
-use Rattle.blic_engine.proofs.Filled.{below_none, filled_more, count_more}
+use Rattle.blic_plain.proofs.Polynomials.{below_none, filled_more, count_more}
 use Rattle.blic_engine.proofs.polys.fill.Goals as goal
 
 pub loop-claim-init : goal.loop-claim-init

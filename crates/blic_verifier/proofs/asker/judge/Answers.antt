@@ -1,14 +1,14 @@
-use Rattle.std.proofs.Common.{rules}
+use Rattle.std.proofs.Common.{rules, sym, ◌∙◌}
 use Rattle.blic_draw.specs.DrawRun.{draw_from}
 use Rattle.blic_messages.specs.Replies.{said}
-use Rattle.blic_verifier.proofs.Followed.{followed, no_refusal, not_over}
+use Rattle.blic_verifier.proofs.Followed.{followed, never_over, no_refusal}
 use Rattle.blic_verifier.proofs.asker.judge.Goals as goal
 
 pub go_on-requires-clause-said : goal.go_on-requires-clause-said
 go_on-requires-clause-said g c = search rules
 
 pub go_on-requires-clause-going : goal.go_on-requires-clause-going
-go_on-requires-clause-going g c = not_over c.args.verifier.now.circuit c.requires.talked.0 (said c.args.reply.now) _ (c.take-next.ensures.says c.requires.waiting.0 c.requires.talked.0 c.requires.talked.1)
+go_on-requires-clause-going g c = λ over. never_over _ (sym (c.take-next.ensures.says c.requires.waiting.0 c.requires.talked.0 c.requires.talked.1) ∙ over)
 
 pub returns-clause-follows : goal.returns-clause-follows
 returns-clause-follows g c hello =

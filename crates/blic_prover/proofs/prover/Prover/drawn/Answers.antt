@@ -4,7 +4,7 @@ use Rattle.blic_claims.specs.Places.{row_at}
 use Rattle.blic_claims.proofs.Rows.{is_row, length-rows}
 use Rattle.blic_prover.specs.Fitted.{StageFits, IsAtWork}
 use Rattle.blic_prover.specs.Honest.{move_at}
-use Rattle.blic_prover.specs.Standing.{GoesOnAt, Proving, StandsAt}
+use Rattle.blic_prover.specs.Standing.{GoesOnAt, Proving, ServesAt}
 use Rattle.blic_prover.specs.declared.stage.Stage.TheVariants.{Drawing}
 use Rattle.blic_messages.specs.declared.ask.Ask.TheVariants.{Draw}
 use Rattle.blic_prover.proofs.Drawing.{work_drawn, work_above}
@@ -57,7 +57,7 @@ pub returns-in-Drawing-clause-honest : goal.returns-in-Drawing-clause-honest
 returns-in-Drawing-clause-honest g c = λ p st.
     let inside = c.self.inside in
     let s : Proving = record { circuit = inside.circuit.now; served = inside.served; points = inside.points; stage = inside.stage; kept = take inside.count inside.polys.items } in
-    let here : StandsAt s s.stage p = subst (λ z. StandsAt z z.stage p) (sym c.self.view_is) st in
+    let here : ServesAt s s.stage p = subst (λ z. ServesAt z z.stage p) (sym c.self.view_is) st in
     drawn_said s p c.in-Drawing.node c.in-Drawing.level c.args.r c.draw.new.self _ c.in-Drawing.is here c.self.invariant.same_rows c.draw.ensures.drawn c.reply.ensures.honest
     ∙ ap (λ z. move_at z.circuit z.served p (Draw c.args.r)) c.self.view_is
 
@@ -65,7 +65,7 @@ pub returns-in-Drawing-clause-stands : goal.returns-in-Drawing-clause-stands
 returns-in-Drawing-clause-stands g c = λ p st.
     let inside = c.self.inside in
     let s : Proving = record { circuit = inside.circuit.now; served = inside.served; points = inside.points; stage = inside.stage; kept = take inside.count inside.polys.items } in
-    let here : StandsAt s s.stage p = subst (λ z. StandsAt z z.stage p) (sym c.self.view_is) st in
+    let here : ServesAt s s.stage p = subst (λ z. ServesAt z z.stage p) (sym c.self.view_is) st in
     drawn_stands s c.reply.new.self p c.in-Drawing.node c.in-Drawing.level c.args.r c.draw.new.self _ c.in-Drawing.is here c.self.invariant.same_rows c.draw.ensures.drawn c.reply.ensures.honest c.reply.ensures.stands
 
 pub returns-in-Fresh-clause-honest : goal.returns-in-Fresh-clause-honest

@@ -4,9 +4,8 @@ use Rattle.std.specs.Vec.{with_items}
 use Rattle.std.proofs.lemmas.List.{with_items_is}
 use Rattle.blic_model.specs.Circuit.{below}
 use Rattle.blic_model.specs.Counts.{claims}
-use Rattle.blic_model.specs.Reduction.{poly}
 use Rattle.blic_claims.specs.Honest.{honest_replies}
-use Rattle.blic_claims.specs.Points.{stored_point}
+use Rattle.blic_claims.specs.Points.{stored_poly}
 use Rattle.blic_claims.specs.Turns.{Polys, no_reply}
 use Rattle.blic_claims.proofs.Places.{rows_of_layout, row_of_layout}
 use Rattle.blic_prover.specs.Fitted.{IsAtWork}
@@ -62,7 +61,7 @@ returns-clause-honest g c = λ draws t r.
     let of_circuit = c.requires.answers ∙ sym (ap (λ z. z.circuit) c.self.view_is) in
     ap (λ z. Polys (take c.row-count.result.claims z)) written
     ∙ (ap Polys c.fill.ensures.filled
-    ∙ (ap (λ z. Polys (map (λ k. poly z.nodes (length z.order) c.args.node c.args.level (stored_point z inside.points c.args.node k)) (below (claims z.nodes c.args.node)))) of_circuit
+    ∙ (ap (λ z. Polys (map (stored_poly z inside.points c.args.node c.args.level) (below (claims z.nodes c.args.node)))) of_circuit
     ∙ (polys_said circuit draws t c.args.node c.args.level inside.points c.is_within_limits.ensures.shaped here
     ∙ ap (λ z. get_or (honest_replies z.circuit.nodes (length z.circuit.order) draws (suc t)) t no_reply) c.self.view_is)))
 

@@ -1,11 +1,12 @@
 use Rattle.std.proofs.Common.{arith, ◌≡◌, ◌∙◌, refl, ap, subst, sym, length}
 use Rattle.blic_claims.specs.Places.{row_at}
 use Rattle.blic_verifier.specs.Verdict.{Talk, with_draw}
-use Rattle.blic_verifier.specs.Standing.{Verifying, StandsFor, claims_waiting}
+use Rattle.blic_verifier.specs.Standing.{Verifying, HoldsFor, claims_waiting}
 use Rattle.blic_verifier.specs.Fitted.{StageFits}
 use Rattle.blic_verifier.specs.declared.stage.Stage.TheVariants.{Ready, Drawing}
 use Rattle.blic_claims.proofs.Places.{rows_of_layout, row_of_layout, row_within}
 use Rattle.blic_verifier.proofs.TakenDraw.{drawn_stands, waiting_is}
+use Rattle.blic_verifier.proofs.TalkElements.{holds_of, elements_of, stands_from, elements_with_draw}
 use Rattle.blic_verifier.proofs.verifier.Verifier.drawn.Goals as goal
 
 pub row-row-requires : goal.row-row-requires
@@ -46,10 +47,11 @@ returns-in-Drawing-clause-drawn g c =
     let own = row_of_layout inside.circuit.now inside.layout.now c.in-Drawing.node c.row-row.result c.self.invariant.laid_out at_work.0 c.row-row.ensures in
     let s : Verifying = record { circuit = inside.circuit.now; points = inside.held.points; values = inside.held.values.items; polys = inside.polys.items; stage = inside.stage; answer = inside.answer; turn = inside.turn } in
     let n : Verifying = record { circuit = inside.circuit.now; points = c.draw.new.self.points; values = c.draw.new.self.values.items; polys = inside.polys.items; stage = Ready c.in-Drawing.node c.in-Drawing.level; answer = inside.answer; turn = inside.turn } in
-    let made : (t : Talk) → StandsFor s t → StandsFor n (with_draw t c.args.r) =
+    let made : (t : Talk) → HoldsFor s t → HoldsFor n (with_draw t c.args.r) =
     drawn_stands s n c.in-Drawing.node c.in-Drawing.level c.args.r c.row-row.result c.in-Drawing.is refl refl refl refl c.self.invariant.room.same_rows own c.draw.ensures.rows c.draw.ensures.drawn
     (rw (← c.deref.ensures.value) c.draw.ensures.inside) c.draw.ensures.outside in
-    subst (λ z. (t : Talk) → StandsFor z t → StandsFor n (with_draw t c.args.r)) c.self.view_is made
+    λ t st. stands_from n (with_draw t c.args.r) ((subst (λ z. (t : Talk) → HoldsFor z t → HoldsFor n (with_draw t c.args.r)) c.self.view_is made) t (holds_of c.args.self.now t st))
+    (elements_with_draw t c.args.r c.is_element.ensures (elements_of c.args.self.now t st))
 
 pub returns-in-Drawing-clause-at_most : goal.returns-in-Drawing-clause-at_most
 returns-in-Drawing-clause-at_most g c =

@@ -5,7 +5,7 @@ use Rattle.blic_model.specs.Circuit.{root, below}
 use Rattle.blic_model.specs.Counts.{claims}
 use Rattle.blic_model.proofs.Shaped.{size_of}
 use Rattle.blic_verifier.specs.declared.next.Next.TheVariants.{Done}
-use Rattle.blic_verifier.specs.Verdict.{Talked, judged, IsAcceptedAs}
+use Rattle.blic_verifier.specs.Verdict.{Talked, judged, next_of, IsAcceptedAs}
 use Rattle.blic_verifier.specs.Standing.{Verifying}
 use Rattle.blic_verifier.specs.Holding.{WalksTo}
 use Rattle.blic_verifier.specs.Fitted.{IsOnWalk}
@@ -57,7 +57,7 @@ returns-clause-says c =
     let walk : WalksTo circuit c.args.answer [] [] (c.root-root.result + 1) inside.held.points values = subst (λ z. WalksTo circuit c.args.answer [] [] z inside.held.points values) e
     (answer_walk circuit c.args.answer inside.held.points inside.held.values.items values c.is_within_limits.ensures.shaped c.self.invariant.room.same_rows c.self.invariant.room.enough (ap₂ (set inside.held.values.items) first c.from_bit.ensures)) in
     let on : IsOnWalk v c.args.answer [] [] (c.root-root.result + 1) = record { same_answer = refl; same_turn = refl; walks = walk } in
-    subst (λ z. c.go_on.result ≡ judged z.circuit.nodes (length z.circuit.order) c.args.answer [] []) c.self.view_is (c.go_on.ensures.says c.args.answer [] [] on)
+    subst (λ z. c.go_on.result ≡ next_of (judged z.circuit.nodes (length z.circuit.order) c.args.answer [] [])) c.self.view_is (c.go_on.ensures.says c.args.answer [] [] on)
 
 pub returns-clause-stands : goal.returns-clause-stands
 returns-clause-stands c =

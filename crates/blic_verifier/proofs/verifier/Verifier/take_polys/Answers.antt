@@ -4,8 +4,8 @@ use Rattle.std.proofs.lemmas.List.{with_items_is}
 use Rattle.blic_claims.specs.Places.{row_at}
 use Rattle.blic_messages.specs.Replies.{Polys}
 use Rattle.blic_verifier.specs.Acceptance.{no_poly}
-use Rattle.blic_verifier.specs.Verdict.{Talk, next_after, with_reply, told_count}
-use Rattle.blic_verifier.specs.Standing.{Verifying, StandsFor}
+use Rattle.blic_verifier.specs.Verdict.{Talk, next_after, next_of, with_reply, told_count}
+use Rattle.blic_verifier.specs.Standing.{Verifying, HoldsFor}
 use Rattle.blic_verifier.specs.Fitted.{StageFits}
 use Rattle.blic_verifier.specs.declared.place.Part.TheVariants.{Poly}
 use Rattle.blic_verifier.specs.declared.next.Next.TheVariants.{Draw, Rejected, WrongCount}
@@ -26,10 +26,10 @@ returns-then-polys-row-clause-says g c =
     let at_work : StageFits inside.circuit.now (Ready c.args.node (c.args.level + 1)) = subst (StageFits inside.circuit.now) ready c.self.invariant.at_work in
     let own = row_of_layout inside.circuit.now inside.layout.now c.args.node c.row-row.result c.self.invariant.laid_out at_work.0 c.row-row.ensures in
     let s : Verifying = record { circuit = inside.circuit.now; points = inside.held.points; values = inside.held.values.items; polys = inside.polys.items; stage = inside.stage; answer = inside.answer; turn = inside.turn } in
-    let said : (t : Talk) → StandsFor s t → WrongCount s.turn c.row-row.result.claims (told_count (length c.args.polys.now)) ≡ next_after s.circuit.nodes (length s.circuit.order) t (Polys c.args.polys.now) =
+    let said : (t : Talk) → HoldsFor s t → WrongCount s.turn c.row-row.result.claims (told_count (length c.args.polys.now)) ≡ next_of (next_after s.circuit.nodes (length s.circuit.order) t (Polys c.args.polys.now)) =
     count_said s c.args.node c.args.level c.row-row.result c.args.polys.now ready own c.if-polys-row.true in
     λ t st. c.wrong_count.ensures.says ∙ (ap (WrongCount c.args.self.now.turn c.row-row.result.claims) c.min.ensures
-    ∙ (subst (λ z. (t : Talk) → StandsFor z t → WrongCount z.turn c.row-row.result.claims (told_count (length c.args.polys.now)) ≡ next_after z.circuit.nodes (length z.circuit.order) t (Polys c.args.polys.now)) c.self.view_is said) t st)
+    ∙ (subst (λ z. (t : Talk) → HoldsFor z t → WrongCount z.turn c.row-row.result.claims (told_count (length c.args.polys.now)) ≡ next_of (next_after z.circuit.nodes (length z.circuit.order) t (Polys c.args.polys.now))) c.self.view_is said) t st)
 
 pub first_unreduced-requires-clause-node : goal.first_unreduced-requires-clause-node
 first_unreduced-requires-clause-node g c =
@@ -64,9 +64,9 @@ returns-in-Some-clause-says g c =
     let at_work : StageFits inside.circuit.now (Ready c.args.node (c.args.level + 1)) = subst (StageFits inside.circuit.now) ready c.self.invariant.at_work in
     let own = row_of_layout inside.circuit.now inside.layout.now c.args.node c.row-row.result c.self.invariant.laid_out at_work.0 c.row-row.ensures in
     let s : Verifying = record { circuit = inside.circuit.now; points = inside.held.points; values = inside.held.values.items; polys = inside.polys.items; stage = inside.stage; answer = inside.answer; turn = inside.turn } in
-    let said : (t : Talk) → StandsFor s t → Rejected (record { node = c.args.node; part = Poly c.args.level; claim = c.in-Some.claim }) ≡ next_after s.circuit.nodes (length s.circuit.order) t (Polys c.args.polys.now) =
+    let said : (t : Talk) → HoldsFor s t → Rejected (record { node = c.args.node; part = Poly c.args.level; claim = c.in-Some.claim }) ≡ next_of (next_after s.circuit.nodes (length s.circuit.order) t (Polys c.args.polys.now)) =
     fault_said s c.args.node c.args.level c.in-Some.claim c.row-row.result c.args.polys.now ready c.self.invariant.room.same_rows own c.if-polys-row.false c.in-Some.ensures.first in
-    (rw c.reject.ensures.says (subst (λ z. (t : Talk) → StandsFor z t → Rejected (record { node = c.args.node; part = Poly c.args.level; claim = c.in-Some.claim }) ≡ next_after z.circuit.nodes (length z.circuit.order) t (Polys c.args.polys.now)) c.self.view_is said))
+    (rw c.reject.ensures.says (subst (λ z. (t : Talk) → HoldsFor z t → Rejected (record { node = c.args.node; part = Poly c.args.level; claim = c.in-Some.claim }) ≡ next_of (next_after z.circuit.nodes (length z.circuit.order) t (Polys c.args.polys.now))) c.self.view_is said))
 
 pub returns-in-None-clause-says : goal.returns-in-None-clause-says
 returns-in-None-clause-says g c =
@@ -75,7 +75,7 @@ returns-in-None-clause-says g c =
     let at_work : StageFits inside.circuit.now (Ready c.args.node (c.args.level + 1)) = subst (StageFits inside.circuit.now) ready c.self.invariant.at_work in
     let own = row_of_layout inside.circuit.now inside.layout.now c.args.node c.row-row.result c.self.invariant.laid_out at_work.0 c.row-row.ensures in
     let s : Verifying = record { circuit = inside.circuit.now; points = inside.held.points; values = inside.held.values.items; polys = inside.polys.items; stage = inside.stage; answer = inside.answer; turn = inside.turn } in
-    subst (λ z. (t : Talk) → StandsFor z t → Draw ≡ next_after z.circuit.nodes (length z.circuit.order) t (Polys c.args.polys.now)) c.self.view_is
+    subst (λ z. (t : Talk) → HoldsFor z t → Draw ≡ next_of (next_after z.circuit.nodes (length z.circuit.order) t (Polys c.args.polys.now))) c.self.view_is
     (fine_said s c.args.node c.args.level c.row-row.result c.args.polys.now ready c.self.invariant.room.same_rows own c.if-polys-row.false c.in-None.ensures.first)
 
 pub returns-in-None-clause-taken : goal.returns-in-None-clause-taken
@@ -89,7 +89,7 @@ returns-in-None-clause-taken g c = λ t st _.
     let long : length c.keep.new.kept ≡ length c.deref_mut.result.now = omega arith in
     let same : length c.deref_mut.result.now ≡ length inside.polys.items = ap length c.deref_mut.ensures.value in
     let written : (with_items inside.polys c.keep.new.kept).items ≡ c.keep.new.kept = with_items_is inside.polys c.keep.new.kept (omega (arith, long, same, inside.polys.ok)) in
-    let made : (t : Talk) → StandsFor s t → StandsFor n (with_reply t (Polys c.args.polys.now)) =
+    let made : (t : Talk) → HoldsFor s t → HoldsFor n (with_reply t (Polys c.args.polys.now)) =
     fine_stands s n c.args.node c.args.level c.row-row.result c.args.polys.now ready refl refl refl refl refl c.saturating_add-self-inside.ensures c.self.invariant.few_turns c.self.invariant.room.same_rows own c.if-polys-row.false c.in-None.ensures.first
     (λ d h. ap (λ z. get_or z d no_poly) written ∙ c.keep.ensures d h) in
-    (subst (λ z. (t : Talk) → StandsFor z t → StandsFor n (with_reply t (Polys c.args.polys.now))) c.self.view_is made) t st
+    (subst (λ z. (t : Talk) → HoldsFor z t → HoldsFor n (with_reply t (Polys c.args.polys.now))) c.self.view_is made) t st

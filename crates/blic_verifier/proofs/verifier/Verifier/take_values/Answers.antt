@@ -5,8 +5,8 @@ use Rattle.blic_claims.specs.Turns.{Reply as ReplyOf}
 use Rattle.blic_claims.specs.Turns.{Values as ValuesReply}
 use Rattle.blic_claims.proofs.SomeClaim.{some_claim_law}
 use Rattle.blic_messages.specs.Replies.{Values}
-use Rattle.blic_verifier.specs.Verdict.{Talk, Talked, next_after, with_reply, IsAcceptedAs}
-use Rattle.blic_verifier.specs.Standing.{Verifying, StandsFor}
+use Rattle.blic_verifier.specs.Verdict.{Talk, Talked, next_after, next_of, with_reply, IsAcceptedAs}
+use Rattle.blic_verifier.specs.Standing.{Verifying, HoldsFor}
 use Rattle.blic_verifier.specs.Holding.{joined}
 use Rattle.blic_verifier.specs.Fitted.{StageFits, IsOnWalk}
 use Rattle.blic_verifier.specs.declared.place.Part.TheVariants.{Ends, Combine}
@@ -56,7 +56,7 @@ returns-in-Some-clause-says g c =
     ) in
     let value : c.index.result.now ≡ get_or inside.held.values.items c.row-row.result.first 0 = c.index.ensures ∙ get_or_default inside.held.values.items c.row-row.result.first c.index.result.now 0 lower in
     let s : Verifying = record { circuit = circuit; points = inside.held.points; values = inside.held.values.items; polys = inside.polys.items; stage = inside.stage; answer = inside.answer; turn = inside.turn } in
-    rw c.reject.ensures.says (subst (λ z. (t : Talk) → StandsFor z t → Rejected (record { node = c.args.node; part = Ends; claim = c.in-Some.claim }) ≡ next_after z.circuit.nodes (length z.circuit.order) t (Values c.args.u c.args.w)) c.self.view_is
+    rw c.reject.ensures.says (subst (λ z. (t : Talk) → HoldsFor z t → Rejected (record { node = c.args.node; part = Ends; claim = c.in-Some.claim }) ≡ next_of (next_after z.circuit.nodes (length z.circuit.order) t (Values c.args.u c.args.w))) c.self.view_is
     (ends_said s c.args.node c.in-Some.claim c.args.u c.args.w c.index.result.now c.row-row.result ready c.self.invariant.room.same_rows own value c.in-Some.ensures))
 
 pub returns-then-ne-clause-says : goal.returns-then-ne-clause-says
@@ -75,7 +75,7 @@ returns-then-ne-clause-says g c =
     let value : c.index.result.now ≡ get_or inside.held.values.items c.row-row.result.first 0 = c.index.ensures ∙ get_or_default inside.held.values.items c.row-row.result.first c.index.result.now 0 lower in
     let joins : c.combined.result ≡ joined (node_at circuit.nodes c.args.node) c.args.u c.args.w = c.combined.ensures.value ∙ ap (λ m. joined m c.args.u c.args.w) c.node.ensures in
     let s : Verifying = record { circuit = circuit; points = inside.held.points; values = inside.held.values.items; polys = inside.polys.items; stage = inside.stage; answer = inside.answer; turn = inside.turn } in
-    rw c.reject-then-ne.ensures.says (subst (λ z. (t : Talk) → StandsFor z t → Rejected (record { node = c.args.node; part = Combine; claim = 0 }) ≡ next_after z.circuit.nodes (length z.circuit.order) t (Values c.args.u c.args.w)) c.self.view_is
+    rw c.reject-then-ne.ensures.says (subst (λ z. (t : Talk) → HoldsFor z t → Rejected (record { node = c.args.node; part = Combine; claim = 0 }) ≡ next_of (next_after z.circuit.nodes (length z.circuit.order) t (Values c.args.u c.args.w))) c.self.view_is
     (combine_said s c.args.node c.args.u c.args.w c.index.result.now c.row-row.result ready c.self.invariant.room.same_rows own value c.is_within_limits.ensures.shaped c.in_default.ensures (λ e. differ c.combined.result c.index.result.now c.if-ne.ensures (joins ∙ e))))
 
 pub returns-clause-says : goal.returns-clause-says
@@ -95,10 +95,10 @@ returns-clause-says g c =
     let joins : c.combined.result ≡ joined (node_at circuit.nodes c.args.node) c.args.u c.args.w = c.combined.ensures.value ∙ ap (λ m. joined m c.args.u c.args.w) c.node.ensures in
     let s : Verifying = record { circuit = circuit; points = inside.held.points; values = inside.held.values.items; polys = inside.polys.items; stage = inside.stage; answer = inside.answer; turn = inside.turn } in
     let n : Verifying = record { circuit = circuit; points = c.hand_down.new.self.points; values = c.hand_down.new.self.values.items; polys = inside.polys.items; stage = inside.stage; answer = inside.answer; turn = c.saturating_add-self-inside.result } in
-    let on : (answer : Bool) (draws : List ℕ) (replies : List ReplyOf) → StandsFor s (Talked answer draws replies) → IsOnWalk n answer draws (replies ++ ValuesReply c.args.u c.args.w ∷ []) c.args.node =
+    let on : (answer : Bool) (draws : List ℕ) (replies : List ReplyOf) → HoldsFor s (Talked answer draws replies) → IsOnWalk n answer draws (replies ++ ValuesReply c.args.u c.args.w ∷ []) c.args.node =
     on_walk s n c.args.node c.args.u c.args.w c.index.result.now c.row-row.result ready c.self.invariant.room.same_rows own value c.in_default.ensures (sym joins ∙ agree c.combined.result c.index.result.now c.if-ne.ensures)
     refl refl c.saturating_add-self-inside.ensures c.self.invariant.few_turns c.hand_down.ensures.taken in
-    subst (λ z. (t : Talk) → StandsFor z t → c.go_on.result ≡ next_after z.circuit.nodes (length z.circuit.order) t (Values c.args.u c.args.w)) c.self.view_is
+    subst (λ z. (t : Talk) → HoldsFor z t → c.go_on.result ≡ next_of (next_after z.circuit.nodes (length z.circuit.order) t (Values c.args.u c.args.w))) c.self.view_is
     (walk_said s n c.args.node c.args.u c.args.w c.go_on.result ready refl on c.go_on.ensures.says)
 
 pub returns-clause-taken : goal.returns-clause-taken
@@ -118,10 +118,10 @@ returns-clause-taken g c =
     let joins : c.combined.result ≡ joined (node_at circuit.nodes c.args.node) c.args.u c.args.w = c.combined.ensures.value ∙ ap (λ m. joined m c.args.u c.args.w) c.node.ensures in
     let s : Verifying = record { circuit = circuit; points = inside.held.points; values = inside.held.values.items; polys = inside.polys.items; stage = inside.stage; answer = inside.answer; turn = inside.turn } in
     let n : Verifying = record { circuit = circuit; points = c.hand_down.new.self.points; values = c.hand_down.new.self.values.items; polys = inside.polys.items; stage = inside.stage; answer = inside.answer; turn = c.saturating_add-self-inside.result } in
-    let on : (answer : Bool) (draws : List ℕ) (replies : List ReplyOf) → StandsFor s (Talked answer draws replies) → IsOnWalk n answer draws (replies ++ ValuesReply c.args.u c.args.w ∷ []) c.args.node =
+    let on : (answer : Bool) (draws : List ℕ) (replies : List ReplyOf) → HoldsFor s (Talked answer draws replies) → IsOnWalk n answer draws (replies ++ ValuesReply c.args.u c.args.w ∷ []) c.args.node =
     on_walk s n c.args.node c.args.u c.args.w c.index.result.now c.row-row.result ready c.self.invariant.room.same_rows own value c.in_default.ensures (sym joins ∙ agree c.combined.result c.index.result.now c.if-ne.ensures)
     refl refl c.saturating_add-self-inside.ensures c.self.invariant.few_turns c.hand_down.ensures.taken in
-    subst (λ z. (t : Talk) → StandsFor z t → StandsFor c.go_on.new.self (with_reply t (Values c.args.u c.args.w))) c.self.view_is
+    subst (λ z. (t : Talk) → HoldsFor z t → HoldsFor c.go_on.new.self (with_reply t (Values c.args.u c.args.w))) c.self.view_is
     (walk_stands s n c.go_on.new.self c.args.node c.args.u c.args.w ready on c.go_on.ensures.stands)
 
 pub returns-clause-accepted : goal.returns-clause-accepted
@@ -141,8 +141,8 @@ returns-clause-accepted g c =
     let joins : c.combined.result ≡ joined (node_at circuit.nodes c.args.node) c.args.u c.args.w = c.combined.ensures.value ∙ ap (λ m. joined m c.args.u c.args.w) c.node.ensures in
     let s : Verifying = record { circuit = circuit; points = inside.held.points; values = inside.held.values.items; polys = inside.polys.items; stage = inside.stage; answer = inside.answer; turn = inside.turn } in
     let n : Verifying = record { circuit = circuit; points = c.hand_down.new.self.points; values = c.hand_down.new.self.values.items; polys = inside.polys.items; stage = inside.stage; answer = inside.answer; turn = c.saturating_add-self-inside.result } in
-    let on : (answer : Bool) (draws : List ℕ) (replies : List ReplyOf) → StandsFor s (Talked answer draws replies) → IsOnWalk n answer draws (replies ++ ValuesReply c.args.u c.args.w ∷ []) c.args.node =
+    let on : (answer : Bool) (draws : List ℕ) (replies : List ReplyOf) → HoldsFor s (Talked answer draws replies) → IsOnWalk n answer draws (replies ++ ValuesReply c.args.u c.args.w ∷ []) c.args.node =
     on_walk s n c.args.node c.args.u c.args.w c.index.result.now c.row-row.result ready c.self.invariant.room.same_rows own value c.in_default.ensures (sym joins ∙ agree c.combined.result c.index.result.now c.if-ne.ensures)
     refl refl c.saturating_add-self-inside.ensures c.self.invariant.few_turns c.hand_down.ensures.taken in
-    subst (λ z. (t : Talk) → StandsFor z t → (b : Bool) → c.go_on.result ≡ Done b → IsAcceptedAs z.circuit b (with_reply t (Values c.args.u c.args.w))) c.self.view_is
+    subst (λ z. (t : Talk) → HoldsFor z t → (b : Bool) → c.go_on.result ≡ Done b → IsAcceptedAs z.circuit b (with_reply t (Values c.args.u c.args.w))) c.self.view_is
     (walk_accepted s n c.args.node c.args.u c.args.w c.go_on.result ready refl on c.go_on.ensures.accepted)
