@@ -80,6 +80,3 @@ written_back len new old size whole =
     let most : length old ≤ length new = omega (arith, size) in
     let all : length new ≤ len = omega (arith, size, whole) in
     ap (λ ys. take len (new ++ ys)) (drop_all (length new) old most) ∙ ap (take len) (append-nil new) ∙ take_all len new all
-
-pub marks_from : (marks : List Bool) (test : ℕ → Bool) → ((v : ℕ) → v < length marks → slice_get marks v ≡ Some (test v)) → Marks marks test
-marks_from marks test tells v inside = get_or_from_slice_get marks v (test v) false (tells v inside)

@@ -129,11 +129,6 @@ one_byte : (t : Bool) → is_cnf_seen (cond t seen.C seen.Other) ≡ false
 one_byte true = refl
 one_byte false = refl
 
-two_bytes : (t u : Bool) → is_cnf_seen (cond t (cond u seen.Cn seen.Other) seen.Other) ≡ false
-two_bytes true true = refl
-two_bytes true false = refl
-two_bytes false u = refl
-
 second : (t : Bool) (b : ℕ) (q : List ℕ) → is_cnf_seen (seen_of (cond t seen.C seen.Other) (b ∷ q)) ≡ is_cnf_seen (seen_of (cond (t && b == 110) seen.Cn seen.Other) q)
 second true b q = refl
 second false b q = refl

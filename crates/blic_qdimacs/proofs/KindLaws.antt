@@ -14,9 +14,6 @@ use Rattle.blic_qdimacs.specs.Machine.{kind_seen}
 use Rattle.blic_qdimacs.specs.Words.{Kind, Number, Other, kind_of, plain_number, value_on, with_sign, without_sign}
 use Rattle.blic_qdimacs.proofs.Lexing.{seen_of}
 
-abbrev pub cap : ℕ
-cap = 2147483648
-
 other_stays : (p : List ℕ) → seen_of seen.Other p ≡ seen.Other
 other_stays [] = refl
 other_stays (b ∷ p) = other_stays p
@@ -56,16 +53,6 @@ capped_number h line negative v s =
 
     lt_ltb : (a b : ℕ) → a < b → nat_lt a b ≡ true
     lt_ltb a b h = grind (arith, nat_tests)
-
--- a number without a sign, from its first digit
-number_seen : (c : ℕ) (p : List ℕ) → is_ascii_digit c ≡ true
-    → seen_of (seen.Digits false (c - 48)) p ≡ cond (all_ascii_digits p) (seen.Digits false (min (value_on (c - 48) p) 2147483648)) seen.Other
-number_seen c p digit =
-    let small : c - 48 ≡ min (c - 48) 2147483648 = small_digit c digit in
-    digits_seen p false (c - 48) (c - 48) small
-  where
-    small_digit : (c : ℕ) → is_ascii_digit c ≡ true → c - 48 ≡ min (c - 48) 2147483648
-    small_digit c digit = grind (arith, nat_tests)
 
 -- Two kinds are taken alike.
 abbrev Alike : Kind → Kind → Type 0

@@ -117,60 +117,63 @@ fn accepted_files_have_these_canonical_texts(rt: HostRuntime) -> Result<(), Fail
     Ok(())
 }
 
+// Texts, and the first refusal of each.
+const REFUSED: [(&str, ReadError); 26] = [
+    ("", ReadError::NoProblemLine { line: 0 }),
+    ("c only\n \n", ReadError::NoProblemLine { line: 0 }),
+    ("e 1 0\n", ReadError::NoProblemLine { line: 1 }),
+    ("p cnf 1\n", ReadError::BadProblemLine { line: 1 }),
+    ("p cnf -1 1\n", ReadError::BadProblemLine { line: 1 }),
+    ("p cnf 1 1\r1 0\n", ReadError::BadProblemLine { line: 1 }),
+    ("p cnf 1 1\n1 x 0\n", ReadError::BadToken { line: 2 }),
+    ("p cnf 1 1\n1 -0\n", ReadError::BadToken { line: 2 }),
+    ("p cnf 1 1\n+1 0\n", ReadError::BadToken { line: 2 }),
+    ("p cnf 1 1\n1 0 c x\n", ReadError::BadToken { line: 2 }),
+    ("p cnf 2 0\ne -3 0\n", ReadError::BadToken { line: 2 }),
+    ("p cnf 1 1\ne 1 a\n", ReadError::BadToken { line: 2 }),
+    (
+        "p cnf 1 1\n2147483648 0\n",
+        ReadError::NumberTooLarge { line: 2 },
+    ),
+    (
+        "p cnf 2 0\ne -2147483648 0\n",
+        ReadError::NumberTooLarge { line: 2 },
+    ),
+    (
+        "p cnf 65536 2147483648\n",
+        ReadError::NumberTooLarge { line: 1 },
+    ),
+    ("p cnf 1 1\n2 0\n", ReadError::VariableTooLarge { line: 2 }),
+    (
+        "p cnf 2 1\ne 1 2 0\na 1 0\n1 0\n",
+        ReadError::BoundTwice { line: 3 },
+    ),
+    (
+        "p cnf 2 1\n1 0\ne 2 0\n",
+        ReadError::SetAfterClause { line: 3 },
+    ),
+    (
+        "p cnf 1 1\n1 0\n-1 0\n",
+        ReadError::TooManyClauses { line: 3 },
+    ),
+    (
+        "p cnf 1 1\n1 0\n2 0\n",
+        ReadError::TooManyClauses { line: 3 },
+    ),
+    ("p cnf 1 1\n1 0\n0\n", ReadError::TooManyClauses { line: 3 }),
+    (
+        "p cnf 1 2\n1 0\n\nc x\n",
+        ReadError::TooFewClauses { line: 2 },
+    ),
+    ("p cnf 1 1\n", ReadError::TooFewClauses { line: 1 }),
+    ("p cnf 1 1\n1\n", ReadError::Unended { line: 2 }),
+    ("p cnf 65536 0\n", ReadError::TooManyVariables { line: 1 }),
+    ("p cnf 1 1048577\n", ReadError::ClauseLimit { line: 1 }),
+];
+
 #[test]
 fn refused_files_name_the_first_refusal_and_its_line(rt: HostRuntime) {
-    for (text, refusal) in [
-        ("", ReadError::NoProblemLine { line: 0 }),
-        ("c only\n \n", ReadError::NoProblemLine { line: 0 }),
-        ("e 1 0\n", ReadError::NoProblemLine { line: 1 }),
-        ("p cnf 1\n", ReadError::BadProblemLine { line: 1 }),
-        ("p cnf -1 1\n", ReadError::BadProblemLine { line: 1 }),
-        ("p cnf 1 1\r1 0\n", ReadError::BadProblemLine { line: 1 }),
-        ("p cnf 1 1\n1 x 0\n", ReadError::BadToken { line: 2 }),
-        ("p cnf 1 1\n1 -0\n", ReadError::BadToken { line: 2 }),
-        ("p cnf 1 1\n+1 0\n", ReadError::BadToken { line: 2 }),
-        ("p cnf 1 1\n1 0 c x\n", ReadError::BadToken { line: 2 }),
-        ("p cnf 2 0\ne -3 0\n", ReadError::BadToken { line: 2 }),
-        ("p cnf 1 1\ne 1 a\n", ReadError::BadToken { line: 2 }),
-        (
-            "p cnf 1 1\n2147483648 0\n",
-            ReadError::NumberTooLarge { line: 2 },
-        ),
-        (
-            "p cnf 2 0\ne -2147483648 0\n",
-            ReadError::NumberTooLarge { line: 2 },
-        ),
-        (
-            "p cnf 65536 2147483648\n",
-            ReadError::NumberTooLarge { line: 1 },
-        ),
-        ("p cnf 1 1\n2 0\n", ReadError::VariableTooLarge { line: 2 }),
-        (
-            "p cnf 2 1\ne 1 2 0\na 1 0\n1 0\n",
-            ReadError::BoundTwice { line: 3 },
-        ),
-        (
-            "p cnf 2 1\n1 0\ne 2 0\n",
-            ReadError::SetAfterClause { line: 3 },
-        ),
-        (
-            "p cnf 1 1\n1 0\n-1 0\n",
-            ReadError::TooManyClauses { line: 3 },
-        ),
-        (
-            "p cnf 1 1\n1 0\n2 0\n",
-            ReadError::TooManyClauses { line: 3 },
-        ),
-        ("p cnf 1 1\n1 0\n0\n", ReadError::TooManyClauses { line: 3 }),
-        (
-            "p cnf 1 2\n1 0\n\nc x\n",
-            ReadError::TooFewClauses { line: 2 },
-        ),
-        ("p cnf 1 1\n", ReadError::TooFewClauses { line: 1 }),
-        ("p cnf 1 1\n1\n", ReadError::Unended { line: 2 }),
-        ("p cnf 65536 0\n", ReadError::TooManyVariables { line: 1 }),
-        ("p cnf 1 1048577\n", ReadError::ClauseLimit { line: 1 }),
-    ] {
+    for (text, refusal) in REFUSED {
         for most in [1, 7, 4096] {
             let answer = read(rt.alloc(), &mut in_pieces(text, most)).map(|_| ());
             assert_eq!(rt; answer, Err(refusal), "{text} in pieces of {most}");

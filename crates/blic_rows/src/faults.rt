@@ -19,10 +19,8 @@ fn files(
     Ok(MemFiles::new(alloc, files, 5, failing, takes_failing, 1).map_err(|_| "memory")?)
 }
 
-#[test]
-fn words_that_do_not_fit_get_the_usage_line(rt: HostRuntime) -> Result<(), Fail> {
-    let alloc = rt.alloc();
-    let rows = "
+// Words that fit no command, a line each.
+const MISFITS: &str = "
 solve
 solve a b
 verify f
@@ -56,7 +54,11 @@ solve f --nodes 00000000001
 solve f --nodes 1 --nodes 1
 solve f --pairs 0
 solve f --pairs 33554433";
-    for row in rows.lines() {
+
+#[test]
+fn words_that_do_not_fit_get_the_usage_line(rt: HostRuntime) -> Result<(), Fail> {
+    let alloc = rt.alloc();
+    for row in MISFITS.lines() {
         let words = words_of(alloc, row)?;
         let mut out = sink(alloc, Vec::new(alloc), 100)?;
         assert_eq!(rt;

@@ -2,43 +2,42 @@
 use Rattle.std.proofs.Common.{ℕ, ◌≡◌, refl, subst, List, Bool, inl, inr, take}
 use Rattle.std.specs.Prelude.{Option, Some, None}
 use Rattle.std.specs.Io.KnownBytes.{append_known}
-use Rattle.blic_model.specs.Formula.{PrenexFormula}
-use Rattle.blic_qdimacs.specs.declared.error.ReadError.{ReadError}
 use Rattle.blic_words.specs.declared.options.Options.{Options}
 use Rattle.blic_words.specs.Requests.{Request, Certify, Solve, Exercise}
-use Rattle.blic_top.specs.Problem.{problem_of}
+use Rattle.blic_input.specs.Problem.{Problem}
 use Rattle.blic_top.specs.Deed.{Told, Deed, nothing, IsDeed}
-use Rattle.blic_top.specs.Jobs.{Certifying, Made, certify_job, first_job, limits_of, seeding_of}
-use Rattle.blic_top.specs.Stops.{IsFileOf, MayRefuse}
+use Rattle.blic_top.specs.Jobs.{Certifying, certify_job, first_job, limits_of}
+use Rattle.blic_input.specs.Tasks.{OfFile, Made, seeding_of}
+use Rattle.blic_input.specs.Stops.{ToldFiles, IsSubject, Stops}
 use Rattle.blic_top.specs.Ends.{Says}
 use Rattle.blic_top.specs.Means.{Means, Runs}
 use Rattle.blic_top.specs.Outcome.{status_of, text_of}
 use Rattle.blic_top.specs.Deciding.{Decides, DecidesAll}
-use Rattle.blic_top.specs.declared.outcome.Stop.TheVariants.{NotRead}
+use Rattle.blic_input.specs.declared.stop.Stop.{Stop}
 use Rattle.blic_top.specs.declared.outcome.Outcome.{Outcome}
 use Rattle.blic_top.specs.declared.outcome.Outcome.TheVariants.{Usage, NoMemory, Stopped}
 use Rattle.blic_basic.proofs.Appended.{append_known-append}
 use Rattle.std.proofs.Common.{◌∙◌, ap}
 use Rattle.blic_top.proofs.Certified.{quiet}
-use Rattle.blic_top.proofs.Onward.{nothing_more}
-use Rattle.blic_top.proofs.Subjects.{Files, of_file, printing_of_file}
+use Rattle.blic_talk.proofs.Onward.{nothing_more}
+use Rattle.blic_top.proofs.Subjects.{of_subject, printing_of_subject}
 
--- a file's formula was certified, or why not
-pub certified_file : (files : Files) (alters : Bool) (file : List ℕ) (o : Options) (f : PrenexFormula) (deed : Deed) (old new : Option (List ℕ)) (result : Option Outcome) → IsFileOf f files file
-    → Decides (certify_job (Made (problem_of f)) (limits_of o) o.seed 0 o.talk) (record { files = None; alters = alters }) deed old new result
+-- a file's problem was certified, or why not
+pub certified_file : (files : ToldFiles) (alters : Bool) (file : List ℕ) (o : Options) (p : Problem) (deed : Deed) (old new : Option (List ℕ)) (result : Option Outcome) → IsSubject files (OfFile file) p
+    → Decides (certify_job (Made p) (limits_of o) o.seed 0 o.talk) (record { files = None; alters = alters }) deed old new result
     → DecidesAll (Some (Certify file o)) (record { files = files; alters = alters }) deed old new result
-certified_file files alters file o f deed old new (Some outcome) is_file (says, lines) =
-    (of_file files alters file f (Some (limits_of o)) (seeding_of o.seed) (Certifying o.seed 0 o.talk) deed outcome is_file says, lines)
-certified_file files alters file o f deed old new None is_file (piece, printing, cut) =
-    (piece, printing_of_file files alters file f (Some (limits_of o)) (seeding_of o.seed) (Certifying o.seed 0 o.talk) deed piece is_file printing, cut)
+certified_file files alters file o p deed old new (Some outcome) is (says, lines) =
+    (of_subject files alters (OfFile file) p (Some (limits_of o)) (seeding_of o.seed) (Certifying o.seed 0 o.talk) deed outcome is says, lines)
+certified_file files alters file o p deed old new None is (piece, printing, cut) =
+    (piece, printing_of_subject files alters (OfFile file) p (Some (limits_of o)) (seeding_of o.seed) (Certifying o.seed 0 o.talk) deed piece is printing, cut)
 
-pub certified_refusal : (files : Files) (alters : Bool) (file : List ℕ) (o : Options) (error : ReadError) (seeds : Option (ℕ → Option (List ℕ))) (seen : Option (List (List ℕ))) (held : Option (List ℕ))
-    → MayRefuse files file error
-    → (deed : Deed) × IsDeed seeds seeds seen seen deed × DecidesAll (Some (Certify file o)) (record { files = files; alters = alters }) deed held held (Some (Stopped (NotRead error)))
-certified_refusal files alters file o error seeds seen held may = (nothing, quiet seeds seen, ((may, refl), nothing_more held))
+pub certified_refusal : (files : ToldFiles) (alters : Bool) (file : List ℕ) (o : Options) (stop : Stop) (seeds : Option (ℕ → Option (List ℕ))) (seen : Option (List (List ℕ))) (held : Option (List ℕ))
+    → Stops files (first_job (Certify file o)).task stop
+    → (deed : Deed) × IsDeed seeds seeds seen seen deed × DecidesAll (Some (Certify file o)) (record { files = files; alters = alters }) deed held held (Some (Stopped stop))
+certified_refusal files alters file o stop seeds seen held stops = (nothing, quiet seeds seen, ((stops, refl), nothing_more held))
 
--- a file's formula was solved, or why not
-pub solved_file : (files : Files) (alters : Bool) (file : List ℕ) (o : Options) (seeds : Option (ℕ → Option (List ℕ))) (seen : Option (List (List ℕ))) (held : Option (List ℕ)) (outcome : Outcome)
+-- a file's problem was solved, or why not
+pub solved_file : (files : ToldFiles) (alters : Bool) (file : List ℕ) (o : Options) (seeds : Option (ℕ → Option (List ℕ))) (seen : Option (List (List ℕ))) (held : Option (List ℕ)) (outcome : Outcome)
     → Says (first_job (Solve file o)) (record { files = files; alters = alters }) nothing outcome
     → (deed : Deed) × IsDeed seeds seeds seen seen deed × DecidesAll (Some (Solve file o)) (record { files = files; alters = alters }) deed held held (Some outcome)
 solved_file files alters file o seeds seen held outcome says = (nothing, quiet seeds seen, (says, nothing_more held))

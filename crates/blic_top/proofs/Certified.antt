@@ -1,43 +1,41 @@
 -- From what a conversation was to what certifying may say.
 use Rattle.std.proofs.Common.{ℕ, ◌≡◌, ◌∙◌, refl, sym, ap, subst, List, [], cond, Bool, true, false, inl, inr}
-use Rattle.std.specs.Prelude.{Option, Some, None}
+use Rattle.std.specs.Prelude.{Option, Some, None, Ok}
 use Rattle.std.specs.Io.KnownBytes.{append_known}
 use Rattle.std.proofs.lemmas.Bool.{cases_Bool}
-use Rattle.sha2.specs.Sha256.{sha256}
-use Rattle.blic_qdimacs.specs.Text.{canonical_text}
+use Rattle.blic_messages.specs.declared.ask.Hello.{Hello}
 use Rattle.blic_model.specs.Circuit.{OrderedCircuit}
-use Rattle.blic_model.specs.Formula.{PrenexFormula}
 use Rattle.blic_model.specs.Value.{RootIs}
-use Rattle.blic_verifier.specs.Accepting.{ShowsIn}
+use Rattle.blic_verifier.specs.Accepting.{IsWorth}
 use Rattle.blic_verifier.specs.Certified.{CertifiedIsWorth}
 use Rattle.blic_verifier.specs.Verdict.{Talk}
 use Rattle.blic_verifier.specs.Conversation.{Instance, Ended, beginning}
 use Rattle.blic_verifier.specs.declared.ending.Ending.{Ending}
 use Rattle.blic_verifier.specs.declared.ending.Ending.TheVariants.{Certified as CertifiedEnd}
 use Rattle.blic_draw.specs.DrawRun.{Source, draw_from}
-use Rattle.blic_top.specs.Problem.{Problem, hello_by, instance_of, problem_of}
-use Rattle.blic_top.specs.Deed.{Told, Deed, nothing, Shows, TookSeed, IsSeedOf, IsDeed}
-use Rattle.blic_top.specs.Jobs.{SolveLimits, Job, Made, certify_job}
-use Rattle.blic_top.specs.Stops.{CanStart}
+use Rattle.blic_input.specs.Problem.{Problem, hello_by, instance_of}
+use Rattle.blic_top.specs.Deed.{Told, Deed, nothing, TookSeed, IsSeedOf, IsDeed}
+use Rattle.blic_talk.specs.Wire.{Shows}
+use Rattle.blic_top.specs.Jobs.{Job, certify_job}
+use Rattle.blic_input.specs.declared.problem.SolveLimits.{SolveLimits}
+use Rattle.blic_input.specs.Tasks.{Made}
+use Rattle.blic_input.specs.Stops.{CanStart}
 use Rattle.blic_top.specs.Ends.{IsPrintingOf, IsTally, Says, ending_of}
-use Rattle.blic_top.specs.Wire.{IsConversation, IsStepping, Leads, spoken}
+use Rattle.blic_talk.specs.Wire.{IsConversation, IsStepping, Leads, spoken}
 use Rattle.blic_print.specs.Printing.{talk_text}
-use Rattle.blic_top.specs.Deciding.{Decides, IsSeeded}
-use Rattle.blic_top.specs.Talking.{IsTalk, instance_by}
-use Rattle.blic_top.specs.declared.conversation.Conversation.{Conversation}
-use Rattle.blic_top.specs.declared.conversation.Talked.TheVariants.{Certified, Failed, Unprinted}
+use Rattle.blic_top.specs.Deciding.{Decides}
+use Rattle.blic_input.specs.Beginning.{IsSeeded}
+use Rattle.blic_talk.specs.Holding.{Conversing, IsTalk}
 use Rattle.blic_top.specs.declared.outcome.Answer.{Answer}
 use Rattle.blic_top.specs.declared.outcome.Tally.{Tally}
 use Rattle.blic_top.specs.declared.outcome.Failure.{Failure}
 use Rattle.blic_top.specs.declared.outcome.Failure.TheVariants.{Rejected, WrongKind, WrongCount, NotFrame}
-use Rattle.blic_top.specs.declared.outcome.Stop.TheVariants.{NoSeed}
 use Rattle.blic_top.specs.declared.outcome.End.TheVariants.{Certified as CertifiedSo, Failed as FailedSo}
 use Rattle.blic_top.specs.declared.outcome.Outcome.{Outcome}
-use Rattle.blic_top.specs.declared.outcome.Outcome.TheVariants.{Stopped, Done}
+use Rattle.blic_top.specs.declared.outcome.Outcome.TheVariants.{Done}
 use Rattle.blic_draw.proofs.Elements.{element_drawn}
-use Rattle.blic_top.proofs.Honesty.{HasLaws, all_readings, honest_end, honest_truth}
-use Rattle.blic_top.proofs.Onward.{nothing_more, shows_none}
-use Rattle.blic_top.proofs.Problems.{problem_hello}
+use Rattle.blic_talk.proofs.Honesty.{HasLaws, all_readings, honest_end, honest_truth}
+use Rattle.blic_talk.proofs.Onward.{nothing_more, shows_none}
 
 -- ---- a run that has done nothing outside
 
@@ -55,21 +53,14 @@ abbrev taken : Option (List ℕ) → List ℕ → Option (List ℕ)
 taken None seed = Some seed
 taken (Some given) seed = None
 
-took : (given : Option (List ℕ)) (seeds now : Option (ℕ → Option (List ℕ))) (seed : List ℕ) → IsSeeded given seeds now (Some seed) → TookSeed seeds now (taken given seed)
+took : (given : Option (List ℕ)) (seeds now : Option (ℕ → Option (List ℕ))) (seed : List ℕ) → IsSeeded given seeds now (Ok seed) → TookSeed seeds now (taken given seed)
 took None seeds now seed is = is
 took (Some g) seeds now seed is = is.1
 
-is_seed : (given : Option (List ℕ)) (seeds now : Option (ℕ → Option (List ℕ))) (seed : List ℕ) (frames : List (List ℕ)) (lines : List ℕ) → IsSeeded given seeds now (Some seed)
+is_seed : (given : Option (List ℕ)) (seeds now : Option (ℕ → Option (List ℕ))) (seed : List ℕ) (frames : List (List ℕ)) (lines : List ℕ) → IsSeeded given seeds now (Ok seed)
     → IsSeedOf given (record { seed = taken given seed; frames = frames; lines = lines }) seed
 is_seed None seeds now seed frames lines is = refl
 is_seed (Some g) seeds now seed frames lines is = (is.0, refl)
-
--- no seed could be had
-pub no_seed : (p : Problem) (limits : SolveLimits) (given : Option (List ℕ)) (first : ℕ) (talk : Bool) (told : Told) (seeds now : Option (ℕ → Option (List ℕ))) (seen : Option (List (List ℕ))) (held : Option (List ℕ))
-    → CanStart p (certify_job (Made p) limits given first talk).task → IsSeeded given seeds now None
-    → (deed : Deed) × IsDeed seeds now seen seen deed × Decides (certify_job (Made p) limits given first talk) told deed held held (Some (Stopped NoSeed))
-no_seed p limits None first talk told seeds now seen held can is = (nothing, record { seed = is; frames = shows_none seen }, (((p, refl, can, refl), refl), nothing_more held))
-no_seed p limits (Some g) first talk told seeds now seen held can is = absurd is
 
 -- ---- the conversation
 
@@ -89,27 +80,24 @@ ends_true p laws root source frames e t alters honest (way, leads, is) =
 
 -- what an accepted answer is worth, by the frames alone
 worth_of : (p : Problem) → HasLaws p.circuit → CertifiedIsWorth → (source : Source) (frames : List (List ℕ)) (b : Bool) (t : Talk) (alters : Bool)
-    → IsConversation (instance_of p) (draw_from source) alters frames (CertifiedEnd b) t → ShowsIn p.circuit b t
+    → IsConversation (instance_of p) (draw_from source) alters frames (CertifiedEnd b) t → IsWorth p.circuit b t
 worth_of p laws law source frames b t alters (way, leads, is) =
     let read = all_readings (instance_of p) (draw_from source) alters (beginning (instance_of p)) way (Ended (CertifiedEnd b) t) leads in
     (law (instance_of p) laws.shaped (draw_from source) (element_drawn source) read.0 read.1 b t read.2).1
 
 -- the conversation was about the problem
-about_it : (p : Problem) (x : Conversation) (source : Source) (alters : Bool) (frames : List (List ℕ)) (e : Ending) (t : Talk) → instance_by x ≡ instance_of p
-    → IsConversation (instance_by x) (draw_from source) alters frames e t → IsConversation (instance_of p) (draw_from source) alters frames e t
+about_it : (p : Problem) (x : Conversing) (source : Source) (alters : Bool) (frames : List (List ℕ)) (e : Ending) (t : Talk) → x.about ≡ instance_of p
+    → IsConversation (x.about) (draw_from source) alters frames e t → IsConversation (instance_of p) (draw_from source) alters frames e t
 about_it p x source alters frames e t same is = subst (λ (z : Instance). IsConversation z (draw_from source) alters frames e t) same is
 
-pub about_problem : (x : Conversation) (f : PrenexFormula) (c : OrderedCircuit) (digest : List ℕ) → x.circuit.now ≡ c → c ≡ (problem_of f).circuit
-    → x.hello ≡ record { wire = 1; circuit = 1; order = 0; digest = digest } → digest ≡ sha256 (canonical_text f) → instance_by x ≡ instance_of (problem_of f)
-about_problem x f c digest circuit same hello named =
-    let whole = circuit ∙ same in
-    let greeting = hello ∙ problem_hello f digest named in
-    λ i. record { circuit = whole i; hello = greeting i }
+pub about_problem : (x : Conversing) (p : Problem) (c : OrderedCircuit) (h : Hello) (talk : Bool) → x ≡ record { about = record { circuit = c; hello = h }; talk = talk } → c ≡ p.circuit
+    → h ≡ hello_by p → x.about ≡ instance_of p
+about_problem x p c h talk is same hello = ap (λ z. z.about) is ∙ (λ i. record { circuit = same i; hello = hello i })
 
-pub certified : (p : Problem) (limits : SolveLimits) (given : Option (List ℕ)) (first : ℕ) (talk : Bool) (told : Told) (x : Conversation) (seed : List ℕ)
+pub certified : (p : Problem) (limits : SolveLimits) (given : Option (List ℕ)) (first : ℕ) (talk : Bool) (told : Told) (x : Conversing) (seed : List ℕ)
     (seeds now : Option (ℕ → Option (List ℕ))) (seen seen_now : Option (List (List ℕ))) (frames : List (List ℕ)) (old new : Option (List ℕ)) (a : Answer) (n : Tally)
-    → HasLaws p.circuit → CertifiedIsWorth → RootIs p.circuit p.truth → CanStart p (certify_job (Made p) limits given first talk).task → instance_by x ≡ instance_of p → x.talk ≡ talk
-    → IsSeeded given seeds now (Some seed) → Shows seen seen_now frames → IsTalk x (draw_from (record { seed = seed; first = first })) told.alters frames old new (Certified a.truth)
+    → HasLaws p.circuit → CertifiedIsWorth → RootIs p.circuit p.truth → CanStart p (certify_job (Made p) limits given first talk).task → x.about ≡ instance_of p → x.talk ≡ talk
+    → IsSeeded given seeds now (Ok seed) → Shows seen seen_now frames → IsTalk x (draw_from (record { seed = seed; first = first })) told.alters frames old new (Some (CertifiedEnd a.truth))
     → (a.vars ≡ p.vars) × (a.clauses ≡ p.clauses) → IsTally p n
     → (deed : Deed) × IsDeed seeds now seen seen_now deed × Decides (certify_job (Made p) limits given first talk) told deed old new (Some (Done (CertifiedSo a n)))
 certified p limits given first talk told x seed seeds now seen seen_now frames old new a n laws law root can same talks seeded shows (t, conversed, lines) numbers tally =
@@ -140,12 +128,13 @@ certified p limits given first talk told x seed seeds now seen seen_now frames o
       ),
     )
 
-pub failed : (p : Problem) (limits : SolveLimits) (given : Option (List ℕ)) (first : ℕ) (talk : Bool) (told : Told) (x : Conversation) (seed : List ℕ)
-    (seeds now : Option (ℕ → Option (List ℕ))) (seen seen_now : Option (List (List ℕ))) (frames : List (List ℕ)) (old new : Option (List ℕ)) (failure : Failure)
-    → HasLaws p.circuit → RootIs p.circuit p.truth → CanStart p (certify_job (Made p) limits given first talk).task → instance_by x ≡ instance_of p → x.talk ≡ talk
-    → IsSeeded given seeds now (Some seed) → Shows seen seen_now frames → IsTalk x (draw_from (record { seed = seed; first = first })) told.alters frames old new (Failed failure)
+pub failed : (p : Problem) (limits : SolveLimits) (given : Option (List ℕ)) (first : ℕ) (talk : Bool) (told : Told) (x : Conversing) (seed : List ℕ)
+    (seeds now : Option (ℕ → Option (List ℕ))) (seen seen_now : Option (List (List ℕ))) (frames : List (List ℕ)) (old new : Option (List ℕ)) (failure : Failure) (e : Ending)
+    → HasLaws p.circuit → RootIs p.circuit p.truth → CanStart p (certify_job (Made p) limits given first talk).task → x.about ≡ instance_of p → x.talk ≡ talk
+    → IsSeeded given seeds now (Ok seed) → Shows seen seen_now frames → IsTalk x (draw_from (record { seed = seed; first = first })) told.alters frames old new (Some e) → ending_of failure ≡ e
     → (deed : Deed) × IsDeed seeds now seen seen_now deed × Decides (certify_job (Made p) limits given first talk) told deed old new (Some (Done (FailedSo failure)))
-failed p limits given first talk told x seed seeds now seen seen_now frames old new failure laws root can same talks seeded shows (t, conversed, lines) =
+failed p limits given first talk told x seed seeds now seen seen_now frames old new failure e laws root can same talks seeded shows talk_so is =
+    let (t, conversed, lines) = subst (IsTalk x (draw_from (record { seed = seed; first = first })) told.alters frames old new) (ap Some (sym is)) talk_so in
     let source : Source = record { seed = seed; first = first } in
     let printed : List ℕ = cond talk (talk_text (spoken (ending_of failure) frames)) [] in
     let about : IsConversation (instance_of p) (draw_from source) told.alters frames (ending_of failure) t = about_it p x source told.alters frames (ending_of failure) t same conversed in
@@ -170,10 +159,10 @@ failed p limits given first talk told x seed seeds now seen seen_now frames old 
     )
 
 -- a line could not be printed
-pub broken_off : (p : Problem) (limits : SolveLimits) (given : Option (List ℕ)) (first : ℕ) (talk : Bool) (told : Told) (x : Conversation) (seed : List ℕ)
+pub broken_off : (p : Problem) (limits : SolveLimits) (given : Option (List ℕ)) (first : ℕ) (talk : Bool) (told : Told) (x : Conversing) (seed : List ℕ)
     (seeds now : Option (ℕ → Option (List ℕ))) (seen seen_now : Option (List (List ℕ))) (frames : List (List ℕ)) (old new : Option (List ℕ))
-    → CanStart p (certify_job (Made p) limits given first talk).task → instance_by x ≡ instance_of p → x.talk ≡ talk
-    → IsSeeded given seeds now (Some seed) → Shows seen seen_now frames → IsTalk x (draw_from (record { seed = seed; first = first })) told.alters frames old new Unprinted
+    → CanStart p (certify_job (Made p) limits given first talk).task → x.about ≡ instance_of p → x.talk ≡ talk
+    → IsSeeded given seeds now (Ok seed) → Shows seen seen_now frames → IsTalk x (draw_from (record { seed = seed; first = first })) told.alters frames old new None
     → (deed : Deed) × IsDeed seeds now seen seen_now deed × Decides (certify_job (Made p) limits given first talk) told deed old new None
 broken_off p limits given first talk told x seed seeds now seen seen_now frames old new can same talks seeded shows (talking, (lines, piece, stepping, n, front)) =
     let source : Source = record { seed = seed; first = first } in

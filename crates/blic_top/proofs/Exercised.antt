@@ -6,20 +6,22 @@ use Rattle.blic_basic.proofs.Appended.{append_known-append}
 use Rattle.blic_words.specs.declared.options.Options.{Options}
 use Rattle.blic_words.specs.Requests.{Exercise}
 use Rattle.blic_top.specs.Deed.{Told, Deed, TookSeed, IsDeed}
-use Rattle.blic_top.specs.Jobs.{Given, Exercising, chain_problem, draws_about, exercise_job, exercise_seed, limits_of}
-use Rattle.blic_top.specs.Stops.{HasSmallCircuit}
+use Rattle.blic_top.specs.Jobs.{Exercising, chain_problem, draws_about, exercise_job, exercise_seed, limits_of}
+use Rattle.blic_input.specs.Tasks.{Given}
+use Rattle.blic_input.specs.Stops.{HasSmallCircuit, ToldFiles}
 use Rattle.blic_top.specs.Ends.{Says}
 use Rattle.blic_top.specs.Means.{goes_on}
 use Rattle.blic_top.specs.Deciding.{Decides, DecidesAll, exercised_draws}
-use Rattle.blic_top.specs.Faults.{Counts, Entropy, fault_of}
+use Rattle.blic_top.specs.Faults.{fault_of}
+use Rattle.blic_input.specs.Faults.{Counts, Entropy}
 use Rattle.blic_top.specs.Outcome.{text_of}
 use Rattle.blic_top.specs.declared.outcome.Answer.{Answer}
 use Rattle.blic_top.specs.declared.outcome.Tally.{Tally}
 use Rattle.blic_top.specs.declared.outcome.End.TheVariants.{Solved, Certified, Exercised, Failed}
 use Rattle.blic_top.specs.declared.outcome.Outcome.{Outcome}
 use Rattle.blic_top.specs.declared.outcome.Outcome.TheVariants.{Usage, NoMemory, Stopped, Done}
-use Rattle.blic_top.proofs.Onward.{shows_more}
-use Rattle.blic_top.proofs.Subjects.{Files, with_files}
+use Rattle.blic_talk.proofs.Onward.{shows_more}
+use Rattle.blic_top.proofs.Subjects.{with_files}
 
 -- the outcome that has a line, after which the next is begun
 pub record HasLine (outcome : Outcome) (draws : ℕ) : Type 0 where
@@ -75,14 +77,14 @@ never_printing pairs o t first told deed held new (piece, printing, cut) = absur
 -- the first one ends the run
 pub first_only : (pairs : ℕ) (o : Options) (alters : Bool) (deed : Deed) (held new : Option (List ℕ)) (outcome : Outcome) → exercised_draws outcome ≡ None
     → Decides (exercise_job pairs o true 0) (record { files = None; alters = alters }) deed held new (Some outcome)
-    → (files : Files) → DecidesAll (Some (Exercise pairs o)) (record { files = files; alters = alters }) deed held new (Some outcome)
+    → (files : ToldFiles) → DecidesAll (Some (Exercise pairs o)) (record { files = files; alters = alters }) deed held new (Some outcome)
 first_only pairs o alters deed held new outcome none (says, lines) files =
     (inl (no_line outcome none, with_files files alters (chain_problem pairs true) (Some (limits_of o)) (Given (exercise_seed o)) (Exercising (exercise_seed o) 0) deed outcome says), lines)
 
 -- its line could not be printed
 pub line_cut : (pairs : ℕ) (o : Options) (alters : Bool) (early : Deed) (held mid new : Option (List ℕ)) (first : Outcome) (draws : ℕ) → HasLine first draws
     → Decides (exercise_job pairs o true 0) (record { files = None; alters = alters }) early held mid (Some first) → (n : ℕ) × (new ≡ append_known mid (take n (text_of first)))
-    → (files : Files) → DecidesAll (Some (Exercise pairs o)) (record { files = files; alters = alters }) early held new None
+    → (files : ToldFiles) → DecidesAll (Some (Exercise pairs o)) (record { files = files; alters = alters }) early held new None
 line_cut pairs o alters early held mid new first draws line (says, lines) (n, front) files = (
   text_of first,
   inr (inl (first, goes first draws line, with_files files alters (chain_problem pairs true) (Some (limits_of o)) (Given (exercise_seed o)) (Exercising (exercise_seed o) 0) early first says, refl)),
@@ -103,7 +105,7 @@ joined_deed pairs o seeds mid now seen seen_mid seen_now early late first draws 
 pub both : (pairs : ℕ) (o : Options) (alters altered : Bool) (held h1 h2 h3 : Option (List ℕ)) (early late : Deed) (first : Outcome) (draws : ℕ) (result : Option Outcome) → HasLine first draws → IsFirst pairs o early draws → altered ≡ alters
     → Decides (exercise_job pairs o true 0) (record { files = None; alters = alters }) early held h1 (Some first) → h2 ≡ append_known h1 (text_of first)
     → Decides (exercise_job pairs o false draws) (record { files = None; alters = altered }) late h2 h3 result
-    → (files : Files) → DecidesAll (Some (Exercise pairs o)) (record { files = files; alters = alters }) (joined early first late) held h3 result
+    → (files : ToldFiles) → DecidesAll (Some (Exercise pairs o)) (record { files = files; alters = alters }) (joined early first late) held h3 result
 unfolding joined
 both pairs o alters altered held h1 h2 h3 early late first draws (Some outcome) line one same (says, lines) printed (says_late, lines_late) files = (
   inr (

@@ -10,19 +10,21 @@ use Rattle.blic_solve.specs.declared.plan.SolveError.{SolveError}
 use Rattle.blic_solve.specs.declared.plan.SolveError.TheVariants as solving
 use Rattle.blic_words.specs.declared.options.Options.{Options}
 use Rattle.blic_words.specs.Requests.{Request, Solve, Certify, Exercise}
-use Rattle.blic_top.specs.Problem.{Problem, problem_of}
+use Rattle.blic_input.specs.Problem.{Problem, problem_of}
 use Rattle.blic_top.specs.Deed.{Told, Deed}
-use Rattle.blic_top.specs.Jobs.{Unseeded, Asked, OfFile, certify_job, limits_of, solve_job}
+use Rattle.blic_top.specs.Jobs.{certify_job, limits_of, solve_job}
+use Rattle.blic_input.specs.Tasks.{Unseeded, Asked, OfFile}
 use Rattle.blic_top.specs.Ends.{Says}
 use Rattle.blic_top.specs.Means.{Means, Runs}
-use Rattle.blic_top.specs.Outcome.{read_status, circuit_status, solving_status, stop_status, status_of, truth_status}
+use Rattle.blic_top.specs.Outcome.{status_of, truth_status}
+use Rattle.blic_input.specs.StopTexts.{read_status, circuit_status, solving_status, stop_status}
 use Rattle.blic_top.specs.Promises.{Certifies, Exercises, IsOrNoMemory, Limits, LimitsSecond, Refuses, Solves, SpellsIn, Tells, TellsCertified}
-use Rattle.blic_top.specs.declared.outcome.Stop.{Stop}
-use Rattle.blic_top.specs.declared.outcome.Stop.TheVariants.{NotRead, NotBuilt, NotSolved, NoSeed}
+use Rattle.blic_input.specs.declared.stop.Stop.{Stop}
+use Rattle.blic_input.specs.declared.stop.Stop.TheVariants.{NotRead, NotBuilt, NotSolved, NoSeed}
 use Rattle.blic_top.specs.declared.outcome.End.TheVariants.{Solved, Certified, Exercised, Failed}
 use Rattle.blic_top.specs.declared.outcome.Outcome.{Outcome}
 use Rattle.blic_top.specs.declared.outcome.Outcome.TheVariants.{Usage, NoMemory, Stopped, Done}
-use Rattle.blic_top.proofs.Problems.{problem_truth}
+use Rattle.blic_input.proofs.Problems.{problem_truth}
 use Rattle.blic_top.proofs.Spelling.{same_file}
 use Rattle.blic_top.proofs.Running.{usage_by, limit_by, refused_by, solve_by, certify_by, exercise_by, second_limit_by}
 

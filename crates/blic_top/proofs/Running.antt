@@ -3,10 +3,12 @@ use Rattle.std.proofs.Common.{◌≡◌, ℕ, List, [], ◌∷◌, Option, Some,
 use Rattle.blic_qdimacs.specs.declared.error.ReadError.{ReadError}
 use Rattle.blic_words.specs.declared.options.Options.{Options}
 use Rattle.blic_words.specs.Requests.{Request, Solve, Certify, Exercise}
-use Rattle.blic_top.specs.Problem.{Problem}
+use Rattle.blic_input.specs.Problem.{Problem}
 use Rattle.blic_top.specs.Deed.{Told, Deed}
-use Rattle.blic_top.specs.Jobs.{Solving, Certifying, Exercising, Job, Given, Asked, chain_problem, draws_about, exercise_job, exercise_seed, first_job, later_jobs}
-use Rattle.blic_top.specs.Stops.{IsSubject, IsNamed, IsRefused, CanStart, PassesLimit}
+use Rattle.blic_top.specs.Jobs.{Solving, Certifying, Exercising, Job, chain_problem, draws_about, exercise_job, exercise_seed, first_job, later_jobs}
+use Rattle.blic_input.specs.Tasks.{Given, Asked}
+use Rattle.blic_input.specs.Stops.{IsSubject, CanStart}
+use Rattle.blic_input.specs.Known.{IsNamed, IsRefused, PassesLimit}
 use Rattle.blic_top.specs.Ends.{Ends, Says}
 use Rattle.blic_top.specs.Means.{SaysAll, Means, goes_on}
 use Rattle.blic_top.specs.Outcome.{end_status, status_of, truth_status}
@@ -25,70 +27,70 @@ usage_by told deed (Done end) means = absurd means
 
 -- ---- one job
 
-says_past : (job : Job) (told : Told) (deed : Deed) (outcome : Outcome) (p : Problem) → Says job told deed outcome → IsNamed told job.task.subject p → PassesLimit p job.task
+says_past : (job : Job) (told : Told) (deed : Deed) (outcome : Outcome) (p : Problem) → Says job told deed outcome → IsNamed told.files job.task.subject p → PassesLimit p job.task
     → IsReadCalm job.task (status_of outcome) → IsOrNoMemory (status_of outcome) 8
 says_past job told deed Usage p says named past calm = absurd says
 says_past job told deed NoMemory p says named past calm = inr refl
-says_past job told deed (Stopped stop) p says named past calm = stop_past told job.task p stop says.0 named past calm
+says_past job told deed (Stopped stop) p says named past calm = stop_past told.files job.task p stop says.0 named past calm
 says_past job told deed (Done end) p (q, is, can, ends) named past calm =
-    absurd (start_or_past p job.task (subst (λ (h : Problem). CanStart h job.task) (same_subject told job.task.subject p q named is) can) past)
+    absurd (start_or_past p job.task (subst (λ (h : Problem). CanStart h job.task) (same_subject told.files job.task.subject p q named is) can) past)
 
-says_refused : (job : Job) (told : Told) (deed : Deed) (outcome : Outcome) (error : ReadError) → Says job told deed outcome → IsRefused told job.task.subject error
+says_refused : (job : Job) (told : Told) (deed : Deed) (outcome : Outcome) (error : ReadError) → Says job told deed outcome → IsRefused told.files job.task.subject error
     → IsReadCalm job.task (status_of outcome) → IsOrNoMemory (status_of outcome) 2
 says_refused job told deed Usage error says refused calm = absurd says
 says_refused job told deed NoMemory error says refused calm = inr refl
-says_refused job told deed (Stopped stop) error says refused calm = stop_refused told job.task error stop says.0 refused calm
-says_refused job told deed (Done end) error (q, is, can, ends) refused calm = absurd (refused_or_subject told job.task.subject q error refused is)
+says_refused job told deed (Stopped stop) error says refused calm = stop_refused told.files job.task error stop says.0 refused calm
+says_refused job told deed (Done end) error (q, is, can, ends) refused calm = absurd (refused_or_subject told.files job.task.subject q error refused is)
 
 -- with a formula that can be started, the job ends by its own rules, or memory ran out
-pub says_end : (job : Job) (told : Told) (deed : Deed) (outcome : Outcome) (p : Problem) → Says job told deed outcome → IsNamed told job.task.subject p → CanStart p job.task
+pub says_end : (job : Job) (told : Told) (deed : Deed) (outcome : Outcome) (p : Problem) → Says job told deed outcome → IsNamed told.files job.task.subject p → CanStart p job.task
     → IsReadCalm job.task (status_of outcome) → IsSeedCalm job.task (status_of outcome) → ((end : End) × (outcome ≡ Done end) × Ends job.kind p told.alters deed end) ⊎ (status_of outcome ≡ 9)
 says_end job told deed Usage p says named can calm still = absurd says
 says_end job told deed NoMemory p says named can calm still = inr refl
-says_end job told deed (Stopped stop) p says named can calm still = inr (stop_or_memory told job.task p stop says.0 named can calm still)
+says_end job told deed (Stopped stop) p says named can calm still = inr (stop_or_memory told.files job.task p stop says.0 named can calm still)
 says_end job told deed (Done end) p (q, is, can_g, ends) named can calm still =
-    inl (end, refl, subst (λ (h : Problem). Ends job.kind h told.alters deed end) (same_subject told job.task.subject p q named is) ends)
+    inl (end, refl, subst (λ (h : Problem). Ends job.kind h told.alters deed end) (same_subject told.files job.task.subject p q named is) ends)
 
 -- ---- jobs one after another
 
 -- a job after which the next is begun was started
 going_subject : (job : Job) (told : Told) (deed : Deed) (outcome : Outcome) → goes_on outcome ≡ true → Says job told deed outcome
-    → (p : Problem) × IsSubject told job.task.subject p × CanStart p job.task
+    → (p : Problem) × IsSubject told.files job.task.subject p × CanStart p job.task
 going_subject job told deed Usage goes says = absurd says
 going_subject job told deed NoMemory goes says = cc
 going_subject job told deed (Stopped stop) goes says = cc
 going_subject job told deed (Done end) goes (q, is, can, ends) = (q, is, can)
 
 first_past : (job : Job) (jobs : List Job) (told : Told) (deed : Deed) (outcome : Outcome) (p : Problem) → SaysAll (job ∷ jobs) told deed outcome
-    → IsNamed told job.task.subject p → PassesLimit p job.task → IsReadCalm job.task (status_of outcome) → IsOrNoMemory (status_of outcome) 8
+    → IsNamed told.files job.task.subject p → PassesLimit p job.task → IsReadCalm job.task (status_of outcome) → IsOrNoMemory (status_of outcome) 8
 first_past job [] told deed outcome p says named past calm = says_past job told deed outcome p says named past calm
 first_past job (next ∷ jobs) told deed outcome p says named past calm =
     elim says [
       | inl (ends, one) ↦ says_past job told deed outcome p one named past calm
       | inr (late, begun, rest) ↦
           let s = going_subject job told begun.early begun.first begun.goes begun.says in
-          absurd (start_or_past p job.task (subst (λ (h : Problem). CanStart h job.task) (same_subject told job.task.subject p s.0 named s.1) s.2) past)
+          absurd (start_or_past p job.task (subst (λ (h : Problem). CanStart h job.task) (same_subject told.files job.task.subject p s.0 named s.1) s.2) past)
     ]
 
 first_refused : (job : Job) (jobs : List Job) (told : Told) (deed : Deed) (outcome : Outcome) (error : ReadError) → SaysAll (job ∷ jobs) told deed outcome
-    → IsRefused told job.task.subject error → IsReadCalm job.task (status_of outcome) → IsOrNoMemory (status_of outcome) 2
+    → IsRefused told.files job.task.subject error → IsReadCalm job.task (status_of outcome) → IsOrNoMemory (status_of outcome) 2
 first_refused job [] told deed outcome error says refused calm = says_refused job told deed outcome error says refused calm
 first_refused job (next ∷ jobs) told deed outcome error says refused calm =
     elim says [
       | inl (ends, one) ↦ says_refused job told deed outcome error one refused calm
       | inr (late, begun, rest) ↦
           let s = going_subject job told begun.early begun.first begun.goes begun.says in
-          absurd (refused_or_subject told job.task.subject s.0 error refused s.1)
+          absurd (refused_or_subject told.files job.task.subject s.0 error refused s.1)
     ]
 
 -- ---- whatever the command
 
 pub limit_by : (r : Request) (told : Told) (deed : Deed) (outcome : Outcome) (p : Problem) → Means (Some r) told deed outcome
-    → IsNamed told (first_job r).task.subject p → PassesLimit p (first_job r).task → IsReadCalm (first_job r).task (status_of outcome) → IsOrNoMemory (status_of outcome) 8
+    → IsNamed told.files (first_job r).task.subject p → PassesLimit p (first_job r).task → IsReadCalm (first_job r).task (status_of outcome) → IsOrNoMemory (status_of outcome) 8
 limit_by r told deed outcome p means named past calm = first_past (first_job r) (later_jobs r) told deed outcome p means named past calm
 
 pub refused_by : (r : Request) (told : Told) (deed : Deed) (outcome : Outcome) (error : ReadError) → Means (Some r) told deed outcome
-    → IsRefused told (first_job r).task.subject error → IsReadCalm (first_job r).task (status_of outcome) → IsOrNoMemory (status_of outcome) 2
+    → IsRefused told.files (first_job r).task.subject error → IsReadCalm (first_job r).task (status_of outcome) → IsOrNoMemory (status_of outcome) 2
 refused_by r told deed outcome error means refused calm = first_refused (first_job r) (later_jobs r) told deed outcome error means refused calm
 
 -- ---- `solve`
@@ -100,7 +102,7 @@ solved p alters deed (Exercised a n) ends = absurd ends
 solved p alters deed (Failed failure) ends = absurd ends
 
 pub solve_by : (file : List ℕ) (o : Options) (told : Told) (deed : Deed) (outcome : Outcome) (p : Problem) → Means (Some (Solve file o)) told deed outcome
-    → IsNamed told (first_job (Solve file o)).task.subject p → CanStart p (first_job (Solve file o)).task → IsReadCalm (first_job (Solve file o)).task (status_of outcome) → IsSeedCalm (first_job (Solve file o)).task (status_of outcome)
+    → IsNamed told.files (first_job (Solve file o)).task.subject p → CanStart p (first_job (Solve file o)).task → IsReadCalm (first_job (Solve file o)).task (status_of outcome) → IsSeedCalm (first_job (Solve file o)).task (status_of outcome)
     → IsOrNoMemory (status_of outcome) (truth_status p.truth)
 solve_by file o told deed outcome p means named can calm still =
     elim (says_end (first_job (Solve file o)) told deed outcome p means named can calm still) [
@@ -118,7 +120,7 @@ certified given first talk p alters deed (Exercised a n) ends honest = absurd en
 certified given first talk p alters deed (Failed failure) ends honest = let e : true ≡ false = sym ends.0.1 ∙ honest in absurd cc
 
 pub certify_by : (file : List ℕ) (o : Options) (told : Told) (deed : Deed) (outcome : Outcome) (p : Problem) → Means (Some (Certify file o)) told deed outcome
-    → IsNamed told (first_job (Certify file o)).task.subject p → CanStart p (first_job (Certify file o)).task → told.alters ≡ false → IsReadCalm (first_job (Certify file o)).task (status_of outcome) → IsSeedCalm (first_job (Certify file o)).task (status_of outcome)
+    → IsNamed told.files (first_job (Certify file o)).task.subject p → CanStart p (first_job (Certify file o)).task → told.alters ≡ false → IsReadCalm (first_job (Certify file o)).task (status_of outcome) → IsSeedCalm (first_job (Certify file o)).task (status_of outcome)
     → IsOrNoMemory (status_of outcome) (truth_status p.truth)
 certify_by file o told deed outcome p means named can honest calm still =
     elim (says_end (first_job (Certify file o)) told deed outcome p means named can calm still) [

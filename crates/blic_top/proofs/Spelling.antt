@@ -5,8 +5,8 @@ use Rattle.blic_model.specs.Formula.{PrenexFormula}
 use Rattle.blic_qdimacs.specs.Meaning.{meaning, Spells}
 use Rattle.blic_qdimacs.specs.declared.error.ReadError.{ReadError}
 use Rattle.blic_qdimacs.specs.declared.error.ReadError.TheVariants as errors
-use Rattle.blic_top.specs.Stops.{IsFileOf, MayRefuse}
-use Rattle.blic_top.specs.Outcome.{read_status}
+use Rattle.blic_input.specs.Stops.{IsFileOf, MayRefuse}
+use Rattle.blic_input.specs.StopTexts.{read_status}
 
 same_formula : (bytes : Option (List ℕ)) (f g : PrenexFormula) → IsSomeAnd bytes (λ b. Spells b f) → IsSomeAnd bytes (λ b. Spells b g) → g ≡ f
 same_formula None f g is_f is_g = absurd is_f

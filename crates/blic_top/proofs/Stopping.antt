@@ -6,14 +6,15 @@ use Rattle.blic_qdimacs.specs.declared.error.ReadError.{ReadError}
 use Rattle.blic_qdimacs.specs.declared.error.ReadError.TheVariants as errors
 use Rattle.blic_solve.specs.declared.plan.SolveError.{SolveError}
 use Rattle.blic_solve.specs.declared.plan.SolveError.TheVariants as solving
-use Rattle.blic_top.specs.Problem.{Problem, problem_of}
-use Rattle.blic_top.specs.Deed.{Told}
-use Rattle.blic_top.specs.Jobs.{SolveLimits, Subject, OfFile, Made, Asked, Task}
-use Rattle.blic_top.specs.Stops.{Stops, IsSubject, IsNamed, IsRefused, MayNotRead, IsBuildingCause, IsCauseWithin, IsSolvable, HasSmallCircuit, CanStart, PassesLimit}
-use Rattle.blic_top.specs.Outcome.{read_status, circuit_status, solving_status, stop_status}
+use Rattle.blic_input.specs.Problem.{Problem, problem_of}
+use Rattle.blic_input.specs.declared.problem.SolveLimits.{SolveLimits}
+use Rattle.blic_input.specs.Tasks.{Subject, OfFile, Made, Asked, Task}
+use Rattle.blic_input.specs.Stops.{Stops, IsSubject, MayNotRead, IsBuildingCause, IsCauseWithin, IsSolvable, HasSmallCircuit, CanStart, ToldFiles}
+use Rattle.blic_input.specs.Known.{IsNamed, IsRefused, PassesLimit}
+use Rattle.blic_input.specs.StopTexts.{read_status, circuit_status, solving_status, stop_status}
 use Rattle.blic_top.specs.Promises.{IsOrNoMemory}
-use Rattle.blic_top.specs.declared.outcome.Stop.{Stop}
-use Rattle.blic_top.specs.declared.outcome.Stop.TheVariants.{NotRead, NotBuilt, NotSolved, NoSeed}
+use Rattle.blic_input.specs.declared.stop.Stop.{Stop}
+use Rattle.blic_input.specs.declared.stop.Stop.TheVariants.{NotRead, NotBuilt, NotSolved, NoSeed}
 use Rattle.blic_top.proofs.Spelling.{same_file, refused_or_file, wants_memory}
 
 -- its formula is read from a file
@@ -31,17 +32,17 @@ IsSeedCalm task status = task.seeding ≡ Asked → status ≡ 11 → ⊥
 
 -- ---- the subject
 
-pub same_subject : (told : Told) (s : Subject) (p q : Problem) → IsNamed told s p → IsSubject told s q → q ≡ p
-same_subject told (OfFile name) p q (f, named, is_p) (g, is, is_q) = is_q ∙ (ap problem_of (same_file told.files name f g named is) ∙ sym is_p)
-same_subject told (Made h) p q named is = is ∙ sym named
+pub same_subject : (files : ToldFiles) (s : Subject) (p q : Problem) → IsNamed files s p → IsSubject files s q → q ≡ p
+same_subject files (OfFile name) p q (f, named, is_p) (g, is, is_q) = is_q ∙ (ap problem_of (same_file files name f g named is) ∙ sym is_p)
+same_subject files (Made h) p q named is = is ∙ sym named
 
-unread : (told : Told) (s : Subject) (p : Problem) (error : ReadError) → MayNotRead told s error → IsNamed told s p → (IsFromFile s → read_status error ≡ 3 → ⊥) → read_status error ≡ 9
-unread told (OfFile name) p error may (f, named, is_p) calm = wants_memory told.files name f error may named (calm tt)
-unread told (Made h) p error may named calm = absurd may
+unread : (files : ToldFiles) (s : Subject) (p : Problem) (error : ReadError) → MayNotRead files s error → IsNamed files s p → (IsFromFile s → read_status error ≡ 3 → ⊥) → read_status error ≡ 9
+unread files (OfFile name) p error may (f, named, is_p) calm = wants_memory files name f error may named (calm tt)
+unread files (Made h) p error may named calm = absurd may
 
-pub refused_or_subject : (told : Told) (s : Subject) (p : Problem) (error : ReadError) → IsRefused told s error → IsSubject told s p → ⊥
-refused_or_subject told (OfFile name) p error refused (f, is, is_p) = refused_or_file told.files name f error refused is
-refused_or_subject told (Made h) p error refused is = refused
+pub refused_or_subject : (files : ToldFiles) (s : Subject) (p : Problem) (error : ReadError) → IsRefused files s error → IsSubject files s p → ⊥
+refused_or_subject files (OfFile name) p error refused (f, is, is_p) = refused_or_file files name f error refused is
+refused_or_subject files (Made h) p error refused is = refused
 
 -- ---- limits: the causes exclude what can be started
 
@@ -81,37 +82,37 @@ limit_solved solving.NoMem = inr refl
 -- ---- the stops
 
 -- of a formula with which the run can start
-pub stop_or_memory : (told : Told) (task : Task) (p : Problem) (stop : Stop) → Stops told task stop → IsNamed told task.subject p → CanStart p task
+pub stop_or_memory : (files : ToldFiles) (task : Task) (p : Problem) (stop : Stop) → Stops files task stop → IsNamed files task.subject p → CanStart p task
     → IsReadCalm task (stop_status stop) → IsSeedCalm task (stop_status stop) → stop_status stop ≡ 9
-stop_or_memory told task p (NotRead error) may named can calm still = unread told task.subject p error may named calm
-stop_or_memory told task p (NotBuilt error) (q, is, cause) named can calm still =
-    built_or_memory p error (subst (λ (h : Problem). IsBuildingCause h error) (same_subject told task.subject p q named is) cause) can.0
-stop_or_memory told task p (NotSolved error) (q, is, small, cause) named can calm still =
-    solved_or_memory p task.limits error (subst (λ (h : Problem). IsCauseWithin h task.limits error) (same_subject told task.subject p q named is) cause) can.1
-stop_or_memory told task p NoSeed (q, is, can_g, asked) named can calm still = absurd (still asked refl)
+stop_or_memory files task p (NotRead error) may named can calm still = unread files task.subject p error may named calm
+stop_or_memory files task p (NotBuilt error) (q, is, cause) named can calm still =
+    built_or_memory p error (subst (λ (h : Problem). IsBuildingCause h error) (same_subject files task.subject p q named is) cause) can.0
+stop_or_memory files task p (NotSolved error) (q, is, small, cause) named can calm still =
+    solved_or_memory p task.limits error (subst (λ (h : Problem). IsCauseWithin h task.limits error) (same_subject files task.subject p q named is) cause) can.1
+stop_or_memory files task p NoSeed (q, is, can_g, asked) named can calm still = absurd (still asked refl)
 
 -- of one that passes a limit
-pub stop_past : (told : Told) (task : Task) (p : Problem) (stop : Stop) → Stops told task stop → IsNamed told task.subject p → PassesLimit p task
+pub stop_past : (files : ToldFiles) (task : Task) (p : Problem) (stop : Stop) → Stops files task stop → IsNamed files task.subject p → PassesLimit p task
     → IsReadCalm task (stop_status stop) → IsOrNoMemory (stop_status stop) 8
-stop_past told task p (NotRead error) may named past calm = inr (unread told task.subject p error may named calm)
-stop_past told task p (NotBuilt error) stops named past calm = limit_built error
-stop_past told task p (NotSolved error) stops named past calm = limit_solved error
-stop_past told task p NoSeed (q, is, can, asked) named past calm =
-    absurd (start_or_past p task (subst (λ (h : Problem). CanStart h task) (same_subject told task.subject p q named is) can) past)
+stop_past files task p (NotRead error) may named past calm = inr (unread files task.subject p error may named calm)
+stop_past files task p (NotBuilt error) stops named past calm = limit_built error
+stop_past files task p (NotSolved error) stops named past calm = limit_solved error
+stop_past files task p NoSeed (q, is, can, asked) named past calm =
+    absurd (start_or_past p task (subst (λ (h : Problem). CanStart h task) (same_subject files task.subject p q named is) can) past)
 
 refused_or_memory : (error : ReadError) → (read_status error ≡ 3 → ⊥) → IsOrNoMemory (read_status error) 2
 refused_or_memory errors.Fault calm = absurd (calm refl)
 refused_or_memory errors.NoMem calm = inr refl
 refused_or_memory error calm = inl refl
 
-is_from_file : (told : Told) (s : Subject) (error : ReadError) → IsRefused told s error → IsFromFile s
-is_from_file told (OfFile name) error refused = tt
-is_from_file told (Made q) error refused = refused
+is_from_file : (files : ToldFiles) (s : Subject) (error : ReadError) → IsRefused files s error → IsFromFile s
+is_from_file files (OfFile name) error refused = tt
+is_from_file files (Made q) error refused = refused
 
 -- of a file that is refused
-pub stop_refused : (told : Told) (task : Task) (error : ReadError) (stop : Stop) → Stops told task stop → IsRefused told task.subject error
+pub stop_refused : (files : ToldFiles) (task : Task) (error : ReadError) (stop : Stop) → Stops files task stop → IsRefused files task.subject error
     → IsReadCalm task (stop_status stop) → IsOrNoMemory (stop_status stop) 2
-stop_refused told task error (NotRead e) stops refused calm = refused_or_memory e (calm (is_from_file told task.subject error refused))
-stop_refused told task error (NotBuilt e) (q, is, cause) refused calm = absurd (refused_or_subject told task.subject q error refused is)
-stop_refused told task error (NotSolved e) (q, is, small, cause) refused calm = absurd (refused_or_subject told task.subject q error refused is)
-stop_refused told task error NoSeed (q, is, can, asked) refused calm = absurd (refused_or_subject told task.subject q error refused is)
+stop_refused files task error (NotRead e) stops refused calm = refused_or_memory e (calm (is_from_file files task.subject error refused))
+stop_refused files task error (NotBuilt e) (q, is, cause) refused calm = absurd (refused_or_subject files task.subject q error refused is)
+stop_refused files task error (NotSolved e) (q, is, small, cause) refused calm = absurd (refused_or_subject files task.subject q error refused is)
+stop_refused files task error NoSeed (q, is, can, asked) refused calm = absurd (refused_or_subject files task.subject q error refused is)

@@ -2,7 +2,7 @@
 use Rattle.std.proofs.Common.{◌≡◌, ℕ, List, ◌++◌, append_assoc, subst, codes, Option}
 use Rattle.std.specs.Prelude.{Result}
 use Rattle.blic_print.specs.Printing.{Prints}
-use Rattle.blic_top.specs.Outcome.{line_end}
+use Rattle.blic_input.specs.StopTexts.{line_end}
 use Rattle.blic_print.specs.declared.write_fault.WriteFault.{WriteFault}
 
 -- what is printed is also an equal text

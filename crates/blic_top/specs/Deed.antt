@@ -1,11 +1,13 @@
 -- What a run did outside, but for its last lines; and what is told of the outside.
-use Rattle.std.specs.Prelude.{◌≡◌, ℕ, Bool, List, [], ◌++◌, Option, Some, None, IfSome, IsSomeAnd, ◌⊎◌}
+use Rattle.std.specs.Prelude.{◌≡◌, ℕ, Bool, List, [], ◌++◌, Option, Some, None, ◌⊎◌}
 use Rattle.blic_basic.specs.Seeding.{Seeds}
 use Rattle.blic_basic.specs.declared.entropy.Seeded.TheVariants as seeded
+use Rattle.blic_input.specs.Stops.{ToldFiles}
+use Rattle.blic_talk.specs.Wire.{Shows}
 
 -- the files by name, and whether the watch alters replies
 pub record Told : Type 0 where
-  pub files : Option (List ℕ → Option (List ℕ))
+  pub files : ToldFiles
   pub alters : Bool
 
 -- the seed that was taken, if one was; the frames that were shown; and the lines before the last ones
@@ -21,10 +23,6 @@ nothing = record { seed = None; frames = []; lines = [] }
 abbrev pub TookSeed : Option (ℕ → Option (List ℕ)) → Option (ℕ → Option (List ℕ)) → Option (List ℕ) → Type 0
 TookSeed before after None = after ≡ before
 TookSeed before after (Some seed) = Seeds before after (seeded.Seed seed)
-
--- a watch that saw the one list saw the other afterwards, if it tells it: these frames more
-abbrev pub Shows : Option (List (List ℕ)) → Option (List (List ℕ)) → List (List ℕ) → Type 0
-Shows old new frames = IfSome new (λ now. IsSomeAnd old (λ before. now ≡ before ++ frames))
 
 -- what the objects tell of a deed: the seeds and the frames before and after
 pub record IsDeed (seeds seeds_now : Option (ℕ → Option (List ℕ))) (seen seen_now : Option (List (List ℕ))) (deed : Deed) : Type 0 where

@@ -2,16 +2,16 @@
 use Rattle.std.specs.Prelude.{◌≡◌, ℕ, Bool, true, false, cond, List, [], length, Option, Some}
 use Rattle.blic_model.specs.Counts.{bad as bad_count}
 use Rattle.blic_model.specs.Value.{RootIs}
-use Rattle.blic_verifier.specs.Accepting.{ShowsIn}
+use Rattle.blic_verifier.specs.Accepting.{IsWorth}
 use Rattle.blic_verifier.specs.declared.ending.Ending.{Ending}
 use Rattle.blic_verifier.specs.declared.ending.Ending.TheVariants.{Certified as CertifiedEnd, Rejected as RejectedEnd, WrongKind as WrongKindEnd, WrongCount as WrongCountEnd, NotFrame as NotFrameEnd}
 use Rattle.blic_verifier.specs.Verdict.{Talk}
 use Rattle.blic_draw.specs.DrawRun.{draw_from}
-use Rattle.blic_top.specs.Problem.{Problem, instance_of}
+use Rattle.blic_input.specs.Problem.{Problem, instance_of}
+use Rattle.blic_input.specs.Stops.{IsSubject, CanStart, Stops}
 use Rattle.blic_top.specs.Deed.{Told, Deed, nothing, IsSeedOf}
 use Rattle.blic_top.specs.Jobs.{Kind, Solving, Certifying, Exercising, Job, draws_about}
-use Rattle.blic_top.specs.Stops.{IsSubject, CanStart, Stops}
-use Rattle.blic_top.specs.Wire.{IsConversation, IsStepping, spoken}
+use Rattle.blic_talk.specs.Wire.{IsConversation, IsStepping, spoken}
 use Rattle.blic_print.specs.Printing.{talk_text}
 use Rattle.blic_top.specs.declared.outcome.Failure.{Failure}
 use Rattle.blic_top.specs.declared.outcome.Failure.TheVariants.{Rejected, WrongKind, WrongCount, NotFrame}
@@ -46,7 +46,7 @@ pub record Converses (p : Problem) (given : Option (List ℕ)) (first : ℕ) (al
 pub record IsCertified (p : Problem) (given : Option (List ℕ)) (first : ℕ) (alters : Bool) (deed : Deed) (a : Answer) (n : Tally) : Type 0 where
   pub conversed : Converses p given first alters deed (CertifiedEnd a.truth)
   pub root : RootIs p.circuit p.truth
-  pub worth : ShowsIn p.circuit a.truth conversed.talk
+  pub worth : IsWorth p.circuit a.truth conversed.talk
   pub truly : alters ≡ false → a.truth ≡ p.truth
   pub numbers : (a.vars ≡ p.vars) × (a.clauses ≡ p.clauses)
   pub tally : IsTally p n
@@ -72,8 +72,8 @@ Ends _ p alters deed end = ⊥
 abbrev pub Says : Job → Told → Deed → Outcome → Type 0
 Says job told deed Usage = ⊥
 Says job told deed NoMemory = deed ≡ nothing
-Says job told deed (Stopped stop) = Stops told job.task stop × (deed ≡ nothing)
-Says job told deed (Done end) = (p : Problem) × IsSubject told job.task.subject p × CanStart p job.task × Ends job.kind p told.alters deed end
+Says job told deed (Stopped stop) = Stops told.files job.task stop × (deed ≡ nothing)
+Says job told deed (Done end) = (p : Problem) × IsSubject told.files job.task.subject p × CanStart p job.task × Ends job.kind p told.alters deed end
 
 -- what a job may be printing in the midst of its work: the lines of a step of its conversation
 abbrev pub IsPrintingOf : Kind → Problem → Bool → Deed → List ℕ → Type 0
@@ -83,4 +83,4 @@ IsPrintingOf (Certifying given first true) p alters deed piece =
 IsPrintingOf _ p alters deed piece = ⊥
 
 abbrev pub IsPrinting : Job → Told → Deed → List ℕ → Type 0
-IsPrinting job told deed piece = (p : Problem) × IsSubject told job.task.subject p × CanStart p job.task × IsPrintingOf job.kind p told.alters deed piece
+IsPrinting job told deed piece = (p : Problem) × IsSubject told.files job.task.subject p × CanStart p job.task × IsPrintingOf job.kind p told.alters deed piece

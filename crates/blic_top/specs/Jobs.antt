@@ -1,35 +1,16 @@
 -- What a run is to do: jobs, one after another.
-use Rattle.std.specs.Prelude.{ℕ, Bool, true, false, List, [], ◌∷◌, length, replicate, Option, Some, None, unwrap_or}
+use Rattle.std.specs.Prelude.{ℕ, Bool, true, false, List, [], ◌∷◌, length, replicate, Option, Some, unwrap_or}
 use Rattle.blic_gen.specs.Chain.{chain}
 use Rattle.blic_model.specs.Counts.{draws}
 use Rattle.blic_words.specs.declared.options.Options.{Options}
 use Rattle.blic_words.specs.Requests.{Request, Solve, Certify, Exercise}
-use Rattle.blic_top.specs.Problem.{Problem, problem_of}
+use Rattle.blic_input.specs.Problem.{Problem, problem_of}
+use Rattle.blic_input.specs.Tasks.{Subject, OfFile, Made, Unseeded, Given, Task, seeding_of}
+use Rattle.blic_input.specs.declared.problem.SolveLimits.{SolveLimits}
 
--- what a job is about: the formula of the file of a name, or a problem that is made
-pub data Subject : Type 0 where
-  OfFile : List ℕ → Subject
-  Made : Problem → Subject
-
--- where draws come from: there are none, from a seed that is given, or from one that is asked for
-pub data Seeding : Type 0 where
-  Unseeded : Seeding
-  Given : List ℕ → Seeding
-  Asked : Seeding
-
--- how far solving may go: decisions in the store, and pairs over all binary nodes
-pub record SolveLimits : Type 0 where
-  pub nodes : ℕ
-  pub pairs : ℕ
-
+-- how far the options let solving go
 abbrev pub limits_of : Options → SolveLimits
 limits_of o = record { nodes = o.nodes; pairs = o.pairs }
-
--- what has to be had before anything is answered; nothing is solved if no limits are given
-pub record Task : Type 0 where
-  pub subject : Subject
-  pub limits : Option SolveLimits
-  pub seeding : Seeding
 
 -- what is done with a problem: it is solved; or certified, with the draws of a seed from one on, with its frames printed or not; or
 -- certified as one of an exercise
@@ -41,10 +22,6 @@ pub data Kind : Type 0 where
 pub record Job : Type 0 where
   pub task : Task
   pub kind : Kind
-
-abbrev pub seeding_of : Option (List ℕ) → Seeding
-seeding_of None = Asked
-seeding_of (Some seed) = Given seed
 
 abbrev pub solve_job : Subject → SolveLimits → Job
 solve_job subject limits = record { task = record { subject = subject; limits = Some limits; seeding = Unseeded }; kind = Solving }

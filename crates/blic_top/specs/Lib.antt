@@ -5,8 +5,4 @@ pub mod Faults
 pub mod Jobs
 pub mod Means
 pub mod Outcome
-pub mod Problem
 pub mod Promises
-pub mod Stops
-pub mod Talking
-pub mod Wire

@@ -6,10 +6,11 @@ use Rattle.blic_qdimacs.specs.Meaning.{Spells}
 use Rattle.blic_qdimacs.specs.declared.error.ReadError.{ReadError}
 use Rattle.blic_words.specs.declared.options.Options.{Options}
 use Rattle.blic_words.specs.Requests.{Request, Solve, Certify, Exercise}
-use Rattle.blic_top.specs.Problem.{Problem}
+use Rattle.blic_input.specs.Problem.{Problem}
+use Rattle.blic_input.specs.Stops.{CanStart}
+use Rattle.blic_input.specs.Known.{IsNamed, IsRefused, PassesLimit}
 use Rattle.blic_top.specs.Deed.{Told}
 use Rattle.blic_top.specs.Jobs.{chain_problem, exercise_job, first_job}
-use Rattle.blic_top.specs.Stops.{CanStart, IsNamed, IsRefused, PassesLimit}
 use Rattle.blic_top.specs.Outcome.{truth_status}
 
 -- the file is told, and spells the formula
@@ -34,13 +35,13 @@ IsOrNoMemory status wanted = (status ≡ wanted) ⊎ (status ≡ 9)
 -- `solve`, and the file spells a problem that can be solved within the limits: the status tells its truth
 abbrev pub Solves : Option Request → Told → ℕ → Type 0
 Solves request told status =
-    (p : Problem) (file : List ℕ) (o : Options) → request ≡ Some (Solve file o) → IsNamed told (first_job (Solve file o)).task.subject p → CanStart p (first_job (Solve file o)).task
+    (p : Problem) (file : List ℕ) (o : Options) → request ≡ Some (Solve file o) → IsNamed told.files (first_job (Solve file o)).task.subject p → CanStart p (first_job (Solve file o)).task
     → IsOrNoMemory status (truth_status p.truth)
 
 -- `certify`, and the file spells a problem that can be certified
 abbrev pub Certifies : Option Request → Told → ℕ → Type 0
 Certifies request told status =
-    (p : Problem) (file : List ℕ) (o : Options) → request ≡ Some (Certify file o) → IsNamed told (first_job (Certify file o)).task.subject p → CanStart p (first_job (Certify file o)).task
+    (p : Problem) (file : List ℕ) (o : Options) → request ≡ Some (Certify file o) → IsNamed told.files (first_job (Certify file o)).task.subject p → CanStart p (first_job (Certify file o)).task
     → IsOrNoMemory status (truth_status p.truth)
 
 -- `exercise`, and both problems can be certified: the status is 0
@@ -58,8 +59,8 @@ LimitsSecond request status =
 -- the problem passes a limit, whatever the command: the status is 8
 abbrev pub Limits : Option Request → Told → ℕ → Type 0
 Limits request told status =
-    (p : Problem) (r : Request) → request ≡ Some r → IsNamed told (first_job r).task.subject p → PassesLimit p (first_job r).task → IsOrNoMemory status 8
+    (p : Problem) (r : Request) → request ≡ Some r → IsNamed told.files (first_job r).task.subject p → PassesLimit p (first_job r).task → IsOrNoMemory status 8
 
 -- the file spells no formula, whatever the command: the status is 2
 abbrev pub Refuses : Option Request → Told → ℕ → Type 0
-Refuses request told status = (error : ReadError) (r : Request) → request ≡ Some r → IsRefused told (first_job r).task.subject error → IsOrNoMemory status 2
+Refuses request told status = (error : ReadError) (r : Request) → request ≡ Some r → IsRefused told.files (first_job r).task.subject error → IsOrNoMemory status 2

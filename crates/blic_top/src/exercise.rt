@@ -1,16 +1,19 @@
 // Certifying two large formulas that are made from a number, one after the other.
-ghost use Rattle.std.specs.Prelude.{◌≡◌, ◌≤◌, ◌^◌, ℕ, List, Option, None, Some};
+ghost use Rattle.std.specs.Prelude.{◌≡◌, ◌≤◌, ◌^◌, ℕ, None, Some};
 ghost use Rattle.blic_top.specs.Deciding.{Decides, DecidesAll, exercised_draws, of_one};
 ghost use Rattle.blic_top.specs.Deed.{Deed, IsDeed};
-ghost use Rattle.blic_top.specs.Faults.{Counts, Entropy as TheEntropy, Files as TheFiles, WriteCounts, fault_in};
+ghost use Rattle.blic_input.specs.Faults.{Counts, Entropy as TheEntropy, Files as TheFiles};
+ghost use Rattle.blic_input.specs.Stops.{ToldFiles};
+ghost use Rattle.blic_top.specs.Faults.{WriteCounts, fault_in};
 ghost use Rattle.blic_top.specs.Jobs.{exercise_job};
 ghost use Rattle.blic_words.specs.Requests.{Exercise};
 
-use crate::certify::{CertifyOptions, certify_formula};
+use crate::certify::{CertifyOptions, certify_problem};
 use crate::outcome::{End, Outcome};
 use blic_basic::{Entropy, Sink, Watch};
 use blic_claims::claims_law;
 use blic_gen::{chain_law, xor_chain};
+use blic_input::Problem;
 use blic_model::circuit_law;
 use blic_print::WriteFault;
 use blic_words::Options;
@@ -28,7 +31,7 @@ pub(crate) fn exercise<E: Entropy, W: Watch, O: Sink>(
 ) -> Option<Outcome>
     requires pairs { (1 ≤ pairs) × (pairs ≤ 500) }
     ensures decides { (deed : Deed) × IsDeed (E.seeds entropy.old) (E.seeds entropy.new) (W.frames watch.old) (W.frames watch.new) deed
-        × ((files : Option (List ℕ → Option (List ℕ))) → DecidesAll (Some (Exercise pairs options.now))
+        × ((files : ToldFiles) → DecidesAll (Some (Exercise pairs options.now))
         (record { files = files; alters = W.alters watch.old }) deed (O.held out.old) (O.held out.new) result) }
     ensures entropy_cause { Counts TheEntropy (fault_in result) (E.faults entropy.old) (E.faults entropy.new) }
     ensures write_cause { WriteCounts result (O.faults out.old) (O.faults out.new) }
@@ -82,6 +85,10 @@ fn exercise_one<E: Entropy, W: Watch, O: Sink>(
     let Ok(formula) = xor_chain(alloc, pairs, truth) else {
         return Some(Outcome::NoMemory);
     };
+    let problem = match Problem::of_formula(alloc, formula) {
+        Ok(problem) => problem,
+        Err(stop) => return Some(Outcome::Stopped(stop)),
+    };
     let seed = options.seed.unwrap_or([0; 32]);
     let options = CertifyOptions {
         options: Options {
@@ -91,7 +98,7 @@ fn exercise_one<E: Entropy, W: Watch, O: Sink>(
         },
         first,
     };
-    match certify_formula(alloc, &formula, &options, entropy, watch, out) {
+    match certify_problem(alloc, &problem, &options, entropy, watch, out) {
         Some(outcome) => Some(said_of_one(outcome)),
         None => None,
     }

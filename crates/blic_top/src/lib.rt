@@ -2,11 +2,9 @@
 #![tactic(auto)]
 
 mod certify;
-mod conversation;
 mod exercise;
-mod file;
 mod outcome;
 mod program;
 
-pub use outcome::{Answer, End, Failure, Outcome, Stop, Tally};
+pub use outcome::{Answer, End, Failure, Outcome, Tally};
 pub use program::run;

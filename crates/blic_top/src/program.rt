@@ -1,26 +1,23 @@
 // The program's work.
 ghost use Rattle.std.specs.Prelude.{◌≡◌, ◌≢◌, ℕ, Bool, Some, None, Option, false, map, string_bytes};
 ghost use Rattle.blic_basic.specs.Outside.{Rose};
+ghost use Rattle.blic_input.specs.Faults.{Counts, Entropy as TheEntropy, Files as TheFiles};
+ghost use Rattle.blic_input.specs.Tasks.{Made};
 ghost use Rattle.blic_words.specs.Requests.{Certify, Solve, request_of};
 ghost use Rattle.blic_top.specs.Deciding.{DecidesAll};
 ghost use Rattle.blic_top.specs.Deed.{Deed, nothing, IsDeed};
 ghost use Rattle.blic_top.specs.Ends.{Says};
-ghost use Rattle.blic_top.specs.Faults.{Counts, Entropy as TheEntropy, Files as TheFiles, WriteCounts, fault_in, fault_of};
-ghost use Rattle.blic_top.specs.Jobs.{Made, first_job, limits_of, solve_job};
+ghost use Rattle.blic_top.specs.Faults.{WriteCounts, fault_in, fault_of};
+ghost use Rattle.blic_top.specs.Jobs.{first_job, limits_of, solve_job};
 ghost use Rattle.blic_top.specs.Means.{Runs};
-ghost use Rattle.blic_top.specs.Problem.{problem_of};
 ghost use Rattle.blic_top.specs.Promises.{Certifies, Exercises, IsOrNoMemory, Limits, LimitsSecond, Refuses, Solves, Tells, TellsCertified};
-ghost use Rattle.blic_top.specs.Stops.{HasSmallCircuit};
 
-use crate::certify::{CertifyOptions, certify_formula};
+use crate::certify::{CertifyOptions, certify_problem, limits_by};
 use crate::exercise::exercise;
-use crate::file::read_file;
-use crate::outcome::{Answer, End, Outcome, Stop};
+use crate::outcome::{Answer, End, Outcome};
 use blic_basic::{Entropy, Files, NoMem, Sink, Watch};
-use blic_circuit::build;
-use blic_model::{Circuit, Formula, boolean_value_law, circuit_law, shape_law};
+use blic_input::Problem;
 use blic_print::WriteFault;
-use blic_solve::answer;
 use blic_words::{Options, Request, parse};
 use std::alloc::Global;
 
@@ -170,15 +167,15 @@ fn certify<F: Files, E: Entropy, W: Watch, O: Sink>(
     ensures entropy_cause { Counts TheEntropy (fault_in result) (E.faults entropy.old) (E.faults entropy.new) }
     ensures write_cause { WriteCounts result (O.faults out.old) (O.faults out.new) }
 {
-    match read_file(alloc, file, files) {
-        Ok(formula) => {
+    match Problem::of_file(alloc, file, files) {
+        Ok(problem) => {
             let options = CertifyOptions {
                 options: *options,
                 first: 0,
             };
-            certify_formula(alloc, &formula, &options, entropy, watch, out)
+            certify_problem(alloc, &problem, &options, entropy, watch, out)
         }
-        Err(error) => Some(Outcome::Stopped(Stop::NotRead(error))),
+        Err(stop) => Some(Outcome::Stopped(stop)),
     }
 }
 
@@ -188,40 +185,24 @@ fn solve<F: Files>(alloc: Global, file: &str, options: &Options, files: &mut F) 
     ensures read_cause { Counts TheFiles (fault_of result) (F.faults files.old) (F.faults files.new) }
     ensures no_seed_fault { (n : ℕ) → Counts TheEntropy (fault_of result) n n }
 {
-    match read_file(alloc, file, files) {
-        Ok(formula) => solve_formula(alloc, &formula, options),
-        Err(error) => Outcome::Stopped(Stop::NotRead(error)),
+    match Problem::of_file(alloc, file, files) {
+        Ok(problem) => solve_problem(alloc, &problem, options),
+        Err(stop) => Outcome::Stopped(stop),
     }
 }
 
-// Solves a formula whose circuit is within its limits.
-fn solve_formula(alloc: Global, formula: &Formula, options: &Options) -> Outcome
-    ensures says { (alters : Bool) → Says (solve_job (Made (problem_of formula.now)) (limits_of options.now)) (record { files = None; alters = alters }) nothing result }
+// Solves a problem.
+fn solve_problem(alloc: Global, problem: &Problem, options: &Options) -> Outcome
+    ensures says { (alters : Bool) → Says (solve_job (Made problem.now) (limits_of options.now)) (record { files = None; alters = alters }) nothing result }
     ensures calm { fault_of result ≡ None }
 {
-    match build(alloc, formula, 0, 1) {
-        Ok(circuit) => solve_circuit(alloc, formula, &circuit, options),
-        Err(error) => Outcome::Stopped(Stop::NotBuilt(error)),
-    }
-}
-
-// Solves the formula's circuit.
-fn solve_circuit(alloc: Global, formula: &Formula, circuit: &Circuit, options: &Options) -> Outcome
-    requires circuit { circuit.now ≡ (problem_of formula.now).circuit }
-    requires small { HasSmallCircuit (problem_of formula.now) }
-    ensures says { (alters : Bool) → Says (solve_job (Made (problem_of formula.now)) (limits_of options.now)) (record { files = None; alters = alters }) nothing result }
-    ensures calm { fault_of result ≡ None }
-{
-    formula.is_within_limits();
-    circuit_law();
-    shape_law();
-    boolean_value_law();
-    match answer(alloc, circuit, options.nodes, options.pairs) {
+    problem.truth_law();
+    match problem.solve(alloc, limits_by(options)) {
         Ok(truth) => Outcome::Done(End::Solved(Answer {
             truth,
-            vars: formula.vars(),
-            clauses: formula.clause_count(),
+            vars: problem.vars(),
+            clauses: problem.clauses(),
         })),
-        Err(error) => Outcome::Stopped(Stop::NotSolved(error)),
+        Err(stop) => Outcome::Stopped(stop),
     }
 }

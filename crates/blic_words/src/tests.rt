@@ -73,9 +73,8 @@ exercise 0001 --seed 00112233445566778899aabbccddeeff00112233445566778899aabbccd
     Ok(())
 }
 
-#[test]
-fn other_words_ask_for_nothing(rt: HostRuntime) -> Result<(), Fail> {
-    let rows = "
+// Words that fit no command, a line each.
+const MISFITS: &str = "
 verify f
 solve
 solve a b
@@ -114,7 +113,10 @@ exercise 1 2
 exercise 1 --seed 12
 exercise 1 --talk
 exercise 1 --nodes 7";
-    for row in rows.lines() {
+
+#[test]
+fn other_words_ask_for_nothing(rt: HostRuntime) -> Result<(), Fail> {
+    for row in MISFITS.lines() {
         assert_asks(&rt, rt.alloc(), row, "nothing")?;
     }
     Ok(())

@@ -2,11 +2,12 @@ use Rattle.std.proofs.Common.{None, length, subst, sym, ◌∙◌, true, ◌≤�
 use Rattle.blic_gen.specs.Chain.{chain}
 use Rattle.blic_model.specs.Circuit.{OrderedCircuit}
 use Rattle.blic_model.specs.Shape.{IsShaped}
-use Rattle.blic_top.specs.Faults.{Counts, Entropy, fault_in}
+use Rattle.blic_top.specs.Faults.{fault_in}
+use Rattle.blic_input.specs.Faults.{Counts, Entropy}
 use Rattle.blic_top.specs.Jobs.{chain_problem}
 use Rattle.blic_top.proofs.DrawCount.{few_draws}
 use Rattle.blic_top.proofs.Exercised.{both, first_is, first_only, has_line, joined, joined_deed, line_cut, never_printing, quiet_line}
-use Rattle.blic_top.proofs.Problems.{problem_circuit}
+use Rattle.blic_input.proofs.Problems.{problem_circuit}
 use Rattle.blic_top.proofs.exercise.exercise.Goals as goal
 
 pub exercise_one-requires-in-Ok-clause-first : goal.exercise_one-requires-in-Ok-clause-first

@@ -1,0 +1,4 @@
+pub mod Beginning
+pub mod Problems
+pub mod Reading
+pub mod Truth

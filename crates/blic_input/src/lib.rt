@@ -1,0 +1,13 @@
+//! From a subject to its problem, or to the first thing that can't be had.
+#![tactic(auto)]
+
+mod file;
+mod problem;
+mod seed;
+mod stop;
+#[cfg(test)]
+mod tests;
+
+pub use problem::{Problem, SolveLimits};
+pub use seed::seed_of;
+pub use stop::Stop;

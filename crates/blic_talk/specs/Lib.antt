@@ -1,0 +1,3 @@
+pub mod Holding
+pub mod Talking
+pub mod Wire
