@@ -1,0 +1,4 @@
+pub mod Echoing
+pub mod Joined
+pub mod Marked
+pub mod Paces

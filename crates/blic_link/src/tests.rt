@@ -1,0 +1,282 @@
+// Links in memory at listed calls, pieces and rooms; dialers; links over streams that fail, and over TCP.
+ghost use Rattle.std.specs.Prelude.{◌≡◌, ◌≤◌, true, List, IfOk};
+ghost use Rattle.blic_link.specs.Passing.{Piece, with_pieces};
+ghost use Rattle.blic_link.specs.Pace.{KeepsPace};
+
+use crate::{
+    Dialed, Dialer, Link, LinkFault, MemDialer, MemLink, Received, Sent, TcpDialer, TcpLink,
+    send_all,
+};
+use blic_basic::NoMem;
+use std::alloc::Global;
+use std::io;
+use std::io::{Read, Write};
+use std::net::{OpenStream, TcpListener, TcpStream};
+use std::test::Fail;
+use std::time::Duration;
+
+// A link over which bytes come, in pieces of at most two bytes.
+fn link_of(alloc: Global, coming: &str, failing: &[u64], room: u32) -> Result<MemLink, NoMem> {
+    let coming = Vec::from_slice(alloc, coming.as_bytes())?;
+    let failing = Vec::from_slice(alloc, failing)?;
+    MemLink::new(alloc, coming, 2, failing, room as usize)
+}
+
+fn piece_is(link: &MemLink, i: u32, sent: bool, bytes: &str) -> bool {
+    i < link.pieces() && link.piece(i) == bytes.as_bytes() && link.piece_was_sent(i) == sent
+}
+
+// Sends the bytes, or receives some if there are none.
+fn pass<K: Link>(link: &mut K, sent: &str) -> Option<usize> {
+    if !link.usable() {
+        return None;
+    }
+    if sent.is_empty() {
+        return match link.recv(&mut [0; 3]) {
+            Received::Got(count) => Some(count),
+            Received::End => Some(0),
+            Received::Failed => None,
+        };
+    }
+    match link.send(sent.as_bytes()) {
+        Sent::Took(count) => Some(count),
+        Sent::Failed => None,
+    }
+}
+
+#[test]
+fn a_link_keeps_the_pieces_that_pass_within_its_room(rt: HostRuntime) -> Result<(), Fail> {
+    let mut link = link_of(rt.alloc(), "abcde", &[1, 5], 9)?;
+    // what is sent, how many bytes pass, and what is left
+    let rows = [
+        ("", Some(2), "cde"),
+        ("", None, "cde"),
+        ("xyz", Some(2), "cde"),
+        ("", Some(2), "e"),
+        ("", Some(1), ""),
+        ("z", None, ""),
+        ("", Some(0), ""),
+        ("z", Some(1), ""),
+        ("xyz", Some(1), ""),
+        ("xyz", None, ""),
+        ("", None, ""),
+    ];
+    for (sent, passed, left) in rows {
+        assert_eq!(rt;
+            pass(&mut link, sent),
+            passed,
+            "{sent:?} with {left:?} left"
+        );
+        assert_eq!(rt; link.left(), left.as_bytes());
+    }
+    let pieces = [
+        (false, "ab"),
+        (true, "xy"),
+        (false, "cd"),
+        (false, "e"),
+        (true, "z"),
+        (true, "x"),
+    ];
+    for (i, (sent, bytes)) in pieces.into_iter().enumerate() {
+        assert!(rt; piece_is(&link, i as u32, sent, bytes), "at {bytes:?}");
+    }
+    assert_eq!(rt; link.pieces(), 6);
+    assert_eq!(rt; link.faults(), 4);
+    assert!(rt; !MemDialer::fits(&vec![in rt.alloc(); link]?));
+    Ok(())
+}
+
+#[test]
+fn sending_all_stops_at_a_fault_with_the_exact_prefix(rt: HostRuntime) -> Result<(), Fail> {
+    let none: [u64; 0] = [];
+    let rows = [
+        (none.as_slice(), 9, Ok(()), ["he", "ll", "o"].as_slice()),
+        ([3].as_slice(), 9, Ok(()), ["he", "ll", "o"].as_slice()),
+        ([1].as_slice(), 9, Err(LinkFault), ["he"].as_slice()),
+        ([0].as_slice(), 9, Err(LinkFault), [].as_slice()),
+        (none.as_slice(), 3, Err(LinkFault), ["he", "l"].as_slice()),
+    ];
+    for (failing, room, answer, pieces) in rows {
+        let mut link = link_of(rt.alloc(), "", failing, room)?;
+        assert!(rt; send_all(&mut link, b"hello") == answer, "with {pieces:?}");
+        assert_eq!(rt; link.pieces() as usize, pieces.len());
+        for (i, bytes) in pieces.iter().enumerate() {
+            assert!(rt; piece_is(&link, i as u32, true, bytes), "at {bytes:?}");
+        }
+        assert_eq!(rt; link.faults(), u64::from(answer.is_err()));
+    }
+    Ok(())
+}
+
+#[test]
+fn links_are_dialed_in_their_order_and_kept(rt: HostRuntime) -> Result<(), Fail> {
+    let alloc = rt.alloc();
+    let first = link_of(alloc, "abc", &[1], 9)?;
+    let second = link_of(alloc, "xyz", &[], 9)?;
+    let links = vec![in alloc; first, second]?;
+    if !MemDialer::fits(&links) {
+        return Err(Fail::from("links that were just made"));
+    }
+    let mut dialer = MemDialer::new(alloc, links, vec![in alloc; 1]?)?;
+    // the bytes of the link that is dialed, if there is one; the faults after it is hung up, and the failed dials
+    let rows = [
+        (Some("abc"), 1, 0),
+        (None, 2, 1),
+        (Some("xyz"), 2, 1),
+        (None, 3, 2),
+    ];
+    for (coming, faults, missed) in rows {
+        if dialer.lent() {
+            return Err(Fail::from("a link is lent"));
+        }
+        match dialer.dial("anywhere") {
+            Dialed::Link(mut link) => {
+                assert_eq!(rt; Some(link.left()), coming.map(|bytes| bytes.as_bytes()));
+                pass(&mut link, "");
+                pass(&mut link, "q");
+                dialer.hang_up(link);
+            }
+            Dialed::Failed => assert!(rt; coming.is_none(), "with {faults} faults"),
+        }
+        assert!(rt; dialer.faults() == faults && dialer.missed() == missed);
+    }
+    assert_eq!(rt; dialer.entries(), 2);
+    // what was left, the pieces and the faults
+    let entries = [
+        ("c", ["ab"].as_slice(), 1),
+        ("z", ["xy", "q"].as_slice(), 0),
+    ];
+    for (i, (left, pieces, faults)) in entries.into_iter().enumerate() {
+        if i as u32 >= dialer.entries() {
+            return Err(Fail::from("an entry is missing"));
+        }
+        let entry = dialer.entry(i as u32);
+        assert_eq!(rt; entry.left(), left.as_bytes());
+        assert_eq!(rt; entry.faults(), faults);
+        assert_eq!(rt; entry.pieces() as usize, pieces.len());
+        for (j, bytes) in pieces.iter().enumerate() {
+            assert!(rt; piece_is(entry, j as u32, j == 1, bytes), "at {bytes:?}");
+        }
+    }
+    Ok(())
+}
+
+// A stream whose delay stays, which gives and takes so many bytes a call, and whose calls fail from one of them on.
+#[derive(Drop)]
+struct Failing {
+    most: usize,
+    calls: u32,
+}
+
+impl Failing {
+    fn call(&mut self, count: usize) -> io::Result<usize>
+        ensures { IfOk result (λ n. n ≤ count) }
+    {
+        if self.calls == 0 {
+            return Err(io::Error::from(io::ErrorKind::Interrupted));
+        }
+        self.calls -= 1;
+        Ok(count.min(self.most))
+    }
+}
+
+impl Read for Failing {
+    fn read(&mut self, buf: &mut [u8]) -> io::Result<usize> {
+        self.call(buf.len())
+    }
+}
+
+impl Write for Failing {
+    fn write(&mut self, buf: &[u8]) -> io::Result<usize> {
+        self.call(buf.len())
+    }
+
+    fn flush(&mut self) -> io::Result<()> {
+        Ok(())
+    }
+}
+
+impl OpenStream for Failing {}
+
+#[test]
+fn a_call_of_a_stream_that_fails_is_a_fault(rt: HostRuntime) {
+    // bytes a call, calls that succeed, what is sent, what passes, and the faults
+    let rows = [
+        (2, 9, "", Some(2), 0),
+        (9, 9, "", Some(3), 0),
+        (0, 9, "", Some(0), 0),
+        (9, 0, "", None, 1),
+        (2, 9, "hello", Some(2), 0),
+        (9, 9, "hello", Some(5), 0),
+        (0, 9, "hello", None, 1),
+        (9, 0, "hello", None, 1),
+    ];
+    for (most, calls, sent, passed, faults) in rows {
+        let mut link = TcpLink::new(Failing { most, calls });
+        assert_eq!(rt; pass(&mut link, sent), passed, "{sent:?} of {most} bytes");
+        assert_eq!(rt; link.faults(), faults);
+    }
+}
+
+// A peer that waits for at most ten seconds.
+fn accepted(listener: &TcpListener) -> io::Result<TcpStream> {
+    let (stream, _) = listener.accept()?;
+    stream.set_read_timeout(Some(Duration::from_secs(10)))?;
+    Ok(stream)
+}
+
+#[test]
+fn bytes_pass_both_ways_over_tcp_until_the_peer_closes(rt: HostRuntime) -> Result<(), Fail> {
+    let listener = TcpListener::bind(&rt, "127.0.0.1:0")?;
+    let address = format!(in rt.alloc(); "{}", listener.local_addr()?)?;
+    let mut dialer = TcpDialer::new(&rt);
+    let Dialed::Link(mut link) = dialer.dial(address.as_str()) else {
+        return Err(Fail::from("the listener was not dialed"));
+    };
+    let mut peer = accepted(&listener)?;
+    let mut buf = [0; 5];
+    assert!(rt; send_all(&mut link, b"hello").is_ok());
+    peer.read_exact(&mut buf)?;
+    assert_eq!(rt; buf.as_slice(), b"hello".as_slice());
+    peer.write_all(b"bye")?;
+    drop(peer);
+    drop(listener);
+    assert_eq!(rt; link.recv(&mut buf), Received::Got(3));
+    assert_eq!(rt; buf.as_slice(), b"byelo".as_slice());
+    assert_eq!(rt; link.recv(&mut buf), Received::End);
+    dialer.hang_up(link);
+    assert!(rt; dialer.faults() == 0 && !dialer.lent());
+    assert!(rt; matches!(dialer.dial(address.as_str()), Dialed::Failed));
+    assert!(rt; matches!(dialer.dial("127.0.0.1"), Dialed::Failed));
+    assert!(rt; dialer.faults() == 2 && dialer.missed() == 2);
+    Ok(())
+}
+
+// Sends back what comes, until the end or a fault, and at most a hundred times.
+fn echo<K: Link>(link: &mut K)
+    requires { K.is_usable link.old ≡ true }
+    ensures { (pieces : List Piece) × (K.pieces link.new ≡ with_pieces (K.pieces link.old) pieces) × KeepsPace (λ came. came) pieces }
+{
+    let mut buf = [0; 4];
+    for _ in 0..100 {
+        let Received::Got(count) = link.recv(&mut buf) else {
+            return;
+        };
+        match send_all(link, &buf[..count]) {
+            Ok(()) => {}
+            Err(LinkFault) => return,
+        }
+    }
+}
+
+#[test]
+fn an_echo_keeps_pace(rt: HostRuntime) -> Result<(), Fail> {
+    let mut link = link_of(rt.alloc(), "abc", &[3], 9)?;
+    echo(&mut link);
+    let pieces = [(false, "ab"), (true, "ab"), (false, "c")];
+    for (i, (sent, bytes)) in pieces.into_iter().enumerate() {
+        assert!(rt; piece_is(&link, i as u32, sent, bytes), "at {bytes:?}");
+    }
+    assert_eq!(rt; link.pieces(), 3);
+    Ok(())
+}
