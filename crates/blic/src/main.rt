@@ -1,4 +1,4 @@
-//! The program `blic`: it hands its words, the files, random bytes and standard output to `run`.
+//! The program `blic`: it hands its arguments, the files, random bytes and standard output to `run`.
 #![tactic(auto)]
 
 use blic_basic::{NoWatch, RandomFile, RealFiles, StdoutSink, Wrote, write_all_counted};
@@ -27,7 +27,7 @@ fn main(rt: HostRuntime) -> ExitCode {
                 Wrote::Failed(_) => 4,
             }
         }
-        // A word that is no text fits no command.
+        // An argument that is no text fits no command.
         Err(_) => run(
             rt.alloc(),
             &Vec::new(rt.alloc()),
@@ -40,7 +40,7 @@ fn main(rt: HostRuntime) -> ExitCode {
     ExitCode::from(status)
 }
 
-// The words behind the program's name.
+// The arguments behind the program's name.
 fn words<R: Env + AllocGlobal>(rt: &R) -> io::Result<Vec<String>> {
     let mut words = Vec::new(rt.alloc());
     for word in env::args(rt)?.skip(1) {

@@ -11,7 +11,7 @@ pub record Counted (R : Type 0) : Type 0 where
   pub inner : R
   pub faults : ℕ
 
--- what the reader will give, if that is known: `Got n` took its first n bytes, `End` comes at its end, `Failed` took nothing
+-- what the reader will give, if that is known: `Got n` took its first n bytes, `End` says that it is at its end, `Failed` took nothing
 abbrev pub HasRead : Option (List ℕ) → Option (List ℕ) → Taken → List ℕ → Type 0
 HasRead old new (Got n) buf = Consumes old new (take n buf)
 HasRead old new End buf = IsAtEnd new

@@ -16,7 +16,7 @@ one_more count = min (count + 1) (2 ^ 64 - 1)
 abbrev pub Rose : ℕ → ℕ → Type 0
 Rose before now = (before ≤ now) × (min (before + 1) (2 ^ 64 - 1) ≤ now)
 
--- `Got n` took the first n bytes, `End` comes where nothing is left, `Failed` took nothing
+-- `Got n` took the first n bytes, `End` says that nothing is left, `Failed` took nothing
 abbrev pub Takes : Option (List ℕ) → Option (List ℕ) → Taken → List ℕ → Type 0
 Takes old new (Got n) buf = (0 < n) × (n ≤ length buf) × (old ≡ prepend_known (take n buf) new)
 Takes old new End buf = (new ≡ old) × IfSome new (λ bytes. bytes ≡ [])

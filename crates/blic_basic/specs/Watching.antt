@@ -2,7 +2,7 @@
 use Rattle.std.specs.Prelude.{◌≡◌, ℕ, Bool, cond, ◌==◌, nat_lt, ◌&&◌, not, List, [], ◌∷◌, ◌++◌, Option, Some, None, IfSome, IsSomeAnd, length, fold, slice_index_or, slice_set}
 use Rattle.blic_basic.specs.declared.bend_watch.Bend.{Bend}
 
--- where the list is told afterwards, it was told before, and is the old one with the frame at its end
+-- if the list is told afterwards, it was told before, and is the old one with the frame at its end
 abbrev pub Adds : Option (List (List ℕ)) → Option (List (List ℕ)) → List ℕ → Type 0
 Adds old new frame = IfSome new (λ now. IsSomeAnd old (λ before. now ≡ before ++ frame ∷ []))
 
@@ -10,7 +10,7 @@ Adds old new frame = IfSome new (λ now. IsSomeAnd old (λ before. now ≡ befor
 abbrev pub is_reply : List ℕ → Bool
 is_reply frame = not (nat_lt (slice_index_or frame 4 0) 129)
 
--- one byte set, where the bend is of this reply and its place is in the frame's body
+-- one byte set, if the bend is of this reply and its place is in the frame's body
 abbrev pub bent_once : ℕ → List ℕ → Bend → List ℕ
 bent_once reply frame b = cond ((b.reply == reply) && not (nat_lt b.place 5) && nat_lt b.place (length frame)) (slice_set frame b.place b.byte) frame
 

@@ -8,8 +8,8 @@ use crate::watch::Watch;
 use std::alloc::Global;
 use std::marker::Model;
 
-/// A byte to set in a reply's frame: that of this place in the reply of this number, counted from 0
-/// over all replies. A place below 5, or past the frame, sets nothing.
+/// A byte to set in a reply's frame: the one at `place` in the frame of reply number `reply`, both
+/// counted from 0, the replies over all of them. A place below 5, or past the frame, sets nothing.
 #[derive(Clone, Copy, Debug, PartialEq, Eq)]
 pub struct Bend {
     pub reply: u64,
@@ -60,7 +60,7 @@ impl BendWatch {
         self.kept.frames()
     }
 
-    /// Frame `i` of those that are kept.
+    /// Frame `i` of those that are kept, counted from 0.
     pub fn frame(&self, i: u32) -> &[u8]
         requires { i < length self.now.kept.frames }
         ensures { result.now ≡ slice_index_or self.now.kept.frames i [] }
@@ -102,7 +102,7 @@ fn apply(bends: &[Bend], reply: u64, frame: &mut [u8])
     }
 }
 
-// Sets the bend's byte, where it is one of the reply's body.
+// Sets the bend's byte, if it is one of the reply's body.
 fn set(bend: &Bend, reply: u64, frame: &mut [u8])
     requires { 5 ≤ length frame.old }
     ensures bent { frame.new ≡ bent_once reply frame.old bend.now }

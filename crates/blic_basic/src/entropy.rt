@@ -6,13 +6,14 @@ ghost use Rattle.blic_basic.specs.Seeding.{Seeds, SeedCounts};
 #[derive(Clone, Copy, Debug, PartialEq, Eq)]
 pub enum Seeded {
     Seed([u8; 32]),
-    /// The seed could not be had.
+    /// The seed could not be obtained.
     Failed,
 }
 
 /// A source of seeds of 32 bytes.
 pub trait Entropy {
-    /// The seeds that will come, by their number from now on, where that is told.
+    /// The seeds that will come, numbered from 0 at the next one, if contracts can speak of them
+    /// (if they are told).
     ghost seeds: { Self → Option (ℕ → Option (List ℕ)) };
 
     /// How many calls have failed.

@@ -16,7 +16,8 @@ pub enum Opened<S> {
 pub trait Files {
     type S: Source;
 
-    /// The bytes of the file of each name that there is, where that is told.
+    /// The bytes of each file that there is, by its name, if contracts can speak of them (if they
+    /// are told).
     ghost files: { Self → Option (List ℕ → Option (List ℕ)) };
 
     /// How many calls have failed, those of the sources that were closed included.
@@ -28,7 +29,7 @@ pub trait Files {
         ensures same { files self.new ≡ files self.old }
         ensures cause { OpenCounts (faults self.old) (faults self.new) result };
 
-    /// Takes a source back, and adds its faults to the count, which stops at its last value.
+    /// Takes a source back, and adds its faults to the count, which stops at 2^64 - 1.
     fn close_file(&mut self, source: Self::S)
         ensures same { files self.new ≡ files self.old }
         ensures later { faults self.old ≤ faults self.new }

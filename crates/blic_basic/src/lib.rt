@@ -39,7 +39,7 @@ pub use sure::{SureEntropy, SureFiles, SureSink, SureSource};
 use thiserror::Error;
 pub use watch::{NoWatch, Watch};
 
-/// Memory ran out: the error of calls that can want nothing else.
+/// Out of memory: the error of calls that can't fail in any other way.
 #[derive(Clone, Copy, Debug, PartialEq, Eq, Error)]
 #[error("memory ran out")]
 pub struct NoMem;

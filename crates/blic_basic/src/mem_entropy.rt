@@ -63,7 +63,7 @@ impl Entropy for MemEntropy {
 
     ghost faults = { λ e. e.faults };
 
-    /// Gives the next seed. It fails exactly where the call's number is listed or no seed is left.
+    /// Gives the next seed. It fails exactly if the call's number is listed or no seed is left.
     fn seed(&mut self) -> Seeded
         ensures seed { Seeds (Some (seed_at self.old.left)) (Some (seed_at self.new.left)) result }
         ensures cause { SeedCounts self.old.faults self.new.faults result }

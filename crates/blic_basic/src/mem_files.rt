@@ -50,9 +50,9 @@ impl Model for MemFiles {
 
 impl MemFiles {
     /// Files of which `room` sources can be opened in all. The memory of these is taken here, so
-    /// no later call wants any. The calls of `open_file` whose numbers are in `failing`, counted
+    /// no later call takes any. The calls of `open_file` whose numbers are in `failing`, counted
     /// from 0, fail, and so do the calls of `take` whose numbers are in `takes_failing`, counted
-    /// from 0 in each source. A source gives at most `most` bytes in a call.
+    /// from 0 in each source. A source gives at most `most` bytes in a call; `most` is at least 1.
     pub fn new(
         alloc: Global,
         files: Vec<MemFile>,
@@ -116,7 +116,7 @@ impl Files for MemFiles {
 
     ghost faults = { λ f. f.faults };
 
-    /// Opens the first file of that name. It fails exactly where the call's number is listed, the
+    /// Opens the first file of that name. It fails exactly if the call's number is listed, the
     /// room for sources is used up, or no file has that name.
     fn open_file(&mut self, name: &str) -> Opened<MemSource>
         ensures bytes { Opens (λ s. Some s.left) (λ s. s.faults) (Some (bytes_of self.old.files)) name.now result }

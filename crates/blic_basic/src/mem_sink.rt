@@ -9,8 +9,8 @@ use crate::sink::{Given, Sink};
 use std::alloc::Global;
 use std::marker::Model;
 
-/// A buffer with room for so many bytes, which takes pieces of at most `most` bytes. The calls
-/// whose numbers are listed fail. Contracts see a `MemorySink`.
+/// A buffer with room for a fixed number of bytes, which takes at most `most` of them in a call. The
+/// calls whose numbers are listed fail. Contracts see a `MemorySink`.
 #[derive(Drop)]
 pub struct MemSink {
     bytes: Vec<u8>,
@@ -41,8 +41,8 @@ impl Model for MemSink {
 
 impl MemSink {
     /// An empty sink with room for `room` bytes, whose memory is taken here, and which takes at
-    /// most `most` bytes in a call. The calls of `give` whose numbers are in `failing`, counted
-    /// from 0, fail.
+    /// most `most` bytes in a call; `most` is at least 1. The calls of `give` whose numbers are in
+    /// `failing`, counted from 0, fail.
     pub fn new(alloc: Global, most: usize, failing: Vec<u64>, room: usize) -> Result<MemSink, NoMem>
         requires { 1 ≤ most }
         ensures { IfOk result (λ sink. sink ≡ new_sink most failing.items room) }
@@ -78,7 +78,7 @@ impl Sink for MemSink {
 
     ghost faults = { λ s. s.faults };
 
-    /// Takes as many bytes as `most` and the room that is left allow. It fails exactly where the
+    /// Takes as many bytes as `most` and the room that is left allow. It fails exactly if the
     /// call's number is listed or no room is left.
     fn give(&mut self, piece: &[u8]) -> Given
         requires { 0 < length piece.now }

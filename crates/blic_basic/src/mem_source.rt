@@ -37,8 +37,8 @@ impl Model for MemSource {
 }
 
 impl MemSource {
-    /// A source of these bytes that gives at most `most` of them in a call. The calls of `take`
-    /// whose numbers are in `failing`, counted from 0, fail.
+    /// A source of these bytes that gives at most `most` of them in a call; `most` is at least 1. The
+    /// calls of `take` whose numbers are in `failing`, counted from 0, fail.
     pub fn new(bytes: Vec<u8>, most: usize, failing: Vec<u64>) -> MemSource
         requires { 1 ≤ most }
         ensures { result ≡ new_source bytes.items most failing.items }
@@ -73,7 +73,7 @@ impl Source for MemSource {
 
     ghost faults = { λ s. s.faults };
 
-    /// Takes as many bytes as `buf` and `most` allow. It fails exactly where the call's number is
+    /// Takes as many bytes as `buf` and `most` allow. It fails exactly if the call's number is
     /// listed.
     fn take(&mut self, buf: &mut [u8]) -> Taken
         requires { 0 < length buf.old }

@@ -7,8 +7,8 @@ use crate::watch::Watch;
 use std::alloc::Global;
 use std::marker::Model;
 
-/// Keeps each frame as it is, until one finds no memory, or would be number 2^32 - 1. Contracts see a
-/// `MemoryWatch`.
+/// Keeps each frame as it is, until there is no memory for one, or one would have number 2^32 - 1,
+/// counted from 0. Contracts see a `MemoryWatch`.
 #[derive(Drop)]
 pub struct MemWatch {
     alloc: Global,
@@ -53,7 +53,7 @@ impl MemWatch {
         self.frames.len() as u32
     }
 
-    /// Frame `i` of those that are kept.
+    /// Frame `i` of those that are kept, counted from 0.
     pub fn frame(&self, i: u32) -> &[u8]
         requires { i < length self.now.frames }
         ensures { result.now ≡ slice_index_or self.now.frames i [] }

@@ -1,7 +1,7 @@
 // What the forms in memory share: a piece of bytes, and the list of the calls that are to fail.
 ghost use Rattle.std.specs.Prelude.{◌≡◌, ◌<◌, ◌≤◌, ◌↔◌, length, take, min, IsTrue, Contains};
 
-/// Copies the front of `rest` to the front of `buf`: as many bytes as both have, and at most
+/// Copies a prefix of `rest` to the start of `buf`: as many bytes as both have, and at most
 /// `most`.
 pub(crate) fn copy_front(rest: &[u8], buf: &mut [u8], most: usize) -> usize
     requires rest { 0 < length rest.now }

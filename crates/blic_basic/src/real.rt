@@ -12,8 +12,8 @@ use std::io;
 use std::io::{Read, Write};
 use std::marker::Model;
 
-/// A source over a reader, as a file. Contracts see the reader, and how many calls have failed. A read that was interrupted is a fault
-/// like any other.
+/// A source over a reader, such as a file. Contracts see the reader, and how many calls have failed. A read that was interrupted is
+/// a fault like any other.
 #[derive(Drop)]
 pub struct RealSource<R> {
     reader: R,
@@ -125,7 +125,8 @@ impl<'a, R: std::rt::Files> Files for RealFiles<'a, R> {
     }
 }
 
-/// A sink over a writer, as standard output. Each call writes and flushes. Contracts see the writer, and how many calls have failed.
+/// A sink over a writer, such as standard output. Each call writes and flushes. Contracts see the writer, and how many calls have
+/// failed.
 #[derive(Drop)]
 pub struct StdoutSink<W> {
     writer: W,
@@ -170,8 +171,8 @@ impl<W: Write> Sink for StdoutSink<W> {
 
     ghost faults = { λ s. s.faults };
 
-    /// Writes the piece, or a front of it, and flushes. It fails where either fails, and where no
-    /// byte was written. After a flush that failed, some of the bytes may have been written.
+    /// Writes the piece, or a prefix of it, and flushes. It fails if either fails, and if no byte was
+    /// written. After a flush that failed, some of the bytes may have been written.
     fn give(&mut self, piece: &[u8]) -> Given
         requires { 0 < length piece.now }
         ensures bytes { Gives None None result piece.now }

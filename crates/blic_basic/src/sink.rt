@@ -21,20 +21,21 @@ pub enum Wrote {
 
 /// A place that bytes are appended to.
 pub trait Sink {
-    /// The bytes that it holds, where they are told.
+    /// The bytes that it holds, if contracts can speak of them (if they are told).
     ghost held: { Self → Option (List ℕ) };
 
     /// How many of its calls have failed.
     ghost faults: { Self → ℕ };
 
-    /// Appends bytes of the front of `piece`, as many as the sink wants.
+    /// Appends a prefix of `piece`, which is not empty, as many bytes as the sink wants.
     fn give(&mut self, piece: &[u8]) -> Given
         requires { 0 < length piece.now }
         ensures bytes { Gives (held self.old) (held self.new) result piece.now }
         ensures cause { GiveCounts (faults self.old) (faults self.new) result };
 }
 
-/// Appends all of the bytes, in as many pieces as the sink wants. It stops at the first fault.
+/// Appends all of the bytes, in as many pieces as the sink wants. It stops at the first fault, and
+/// answers how many bytes were appended until then.
 #[tactic(auto, using(crate::proofs::Appended::append_known_more))]
 pub fn write_all_counted<S: Sink>(sink: &mut S, bytes: &[u8]) -> Wrote
     ensures bytes { Writes (S.held sink.old) (S.held sink.new) result bytes.now }

@@ -9,7 +9,7 @@ use std::sync::ledger::{Blank, Book, Ledger, Share};
 /// when it runs.
 ///
 /// A function that takes a `&mut Steps<L>` and ticks at each costly operation can promise how many
-/// of these it makes, as `steps.new ≤ steps.old + 3`. A promise of this kind says nothing of
+/// of these it makes, such as `steps.new ≤ steps.old + 3`. A promise of this kind says nothing of
 /// operations that aren't ticked.
 ///
 /// `L` says which count it is. A function that is generic in it takes a `Blank`, and requires that

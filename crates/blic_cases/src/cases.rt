@@ -83,7 +83,8 @@ fn holds(formula: &Formula, bounds: &[Bound], assignment: &Assignment<'_>) -> bo
 }
 
 /// The formula's truth, by trying both values of each variable of the prefix, the outermost first.
-/// It takes no memory, and time that may double with each entry of the prefix.
+/// The prefix has at most 20 entries. It takes no memory, so no error comes, and time that may double
+/// with each entry of the prefix.
 pub fn by_cases(_alloc: Global, formula: &Formula) -> Result<bool, NoMem>
     requires { length formula.now.prefix ≤ 20 }
     ensures { result ≡ Ok (truth formula.now) }

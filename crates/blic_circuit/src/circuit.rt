@@ -11,11 +11,11 @@ use crate::building::{levels_of_formula, nodes_of_formula};
 use blic_model::{Circuit, CircuitError, Formula, circuit_law};
 use std::alloc::Global;
 
-/// The formula's circuit over the order with number `order`, by the rules of that version. There is
-/// order 0, in which level k is entry k of the prefix, and version 1. On average it takes time that grows with the number
-/// of literals, clauses and levels, and with the free levels of its nodes.
+/// The formula's circuit over the order with number `order`, by the rules of that version. The only
+/// order is 0, in which level k is entry k of the prefix, and the only version is 1. On average it takes time that grows with
+/// the number of literals, clauses and levels, and with the free levels of its nodes.
 ///
-/// Too many claims are told before too many points.
+/// Too many claims are reported before too many points.
 pub fn build(
     alloc: Global,
     formula: &Formula,

@@ -40,8 +40,7 @@ impl NodeList {
         })
     }
 
-    /// The number of the node's equal in the list, to which the node is appended where there is
-    /// none.
+    /// The number of the node's equal in the list, to which the node is appended if there is none.
     pub(crate) fn add(&mut self, node: Node) -> Result<u32, NoMem>
         requires { length self.old + 1 < 2 ^ 32 }
         ensures nodes { IfOk result (λ number. record { nodes = self.new; number = number } ≡ add_node node self.old) }

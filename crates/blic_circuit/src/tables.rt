@@ -46,7 +46,7 @@ fn put_levels(vars: u32, prefix: &[Bound], levels: &mut [u32])
     }
 }
 
-/// The variable's level; the number of levels, where it is not bound.
+/// The variable's level; the number of levels, if it is not bound.
 pub(crate) fn level_of(formula: &Formula, levels: &[u32], var: u32) -> u32
     requires { HasLevels levels.now formula.now.prefix }
     ensures { result ≡ level_by formula.now.prefix var }

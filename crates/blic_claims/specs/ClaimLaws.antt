@@ -12,7 +12,7 @@ use Rattle.blic_claims.specs.Places.{given}
 abbrev pub ClaimCountLaw : Type 0
 ClaimCountLaw = (nodes : List Node) (levels : ℕ) (T : Transcript) (k : ℕ) → length (claims_on nodes levels T k) ≡ claims nodes k
 
--- each node has a claim
+-- each node has at least one claim
 abbrev pub SomeClaimLaw : Type 0
 SomeClaimLaw = (nodes : List Node) (levels : ℕ) → IsShaped nodes levels → (k : ℕ) → k < length nodes → 0 < claims nodes k
 

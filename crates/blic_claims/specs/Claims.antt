@@ -8,7 +8,7 @@ use Rattle.blic_model.specs.Circuit.{node_at, root, below, table, free}
 use Rattle.blic_model.specs.Value.{Point, put, bit}
 
 -- what was said and drawn: the answer; for each binary node and each of its free levels, by its place among them,
--- the draw and the polynomials; and for each binary node the values of its operands
+-- the draw (challenge) and the polynomials; and for each binary node the values of its operands
 pub record Transcript : Type 0 where
   pub answer : Bool
   pub draw : ℕ → ℕ → ℕ

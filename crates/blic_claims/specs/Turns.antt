@@ -87,7 +87,7 @@ abbrev pub is_polys : Turn → Bool
 is_polys (ForPolys k i) = true
 is_polys (ForValues k) = false
 
--- whether a draw stands after n replies: where the last of them was for polynomials
+-- whether a draw comes after n replies: it does if the last of them was for polynomials
 abbrev pub wants_draw_after : List Turn → ℕ → Bool
 wants_draw_after ts zero = false
 wants_draw_after ts (suc t) = is_polys (slice_index_or ts t (ForValues 0))

@@ -22,8 +22,8 @@ pub trait Answers {
     ghost most: { Self → ℕ → ℕ };
 
     /// What it remembers of its last answer: whether that was about this node at this free level, and
-    /// whether these points differ from those of the answer, on that node, at that level alone, where all
-    /// claims have one element. A type that remembers nothing takes it as always true.
+    /// whether these points differ from those of the answer, on that node, at that level alone, at which
+    /// all claims have one element. A type that remembers nothing takes it as always true.
     ghost goes_on: { Self → PointTable → ℕ → ℕ → Type 0 };
 
     /// Whether the root's value is 1.
@@ -32,8 +32,8 @@ pub trait Answers {
         ensures most { most self.new ≡ most self.old }
         ensures answer { result ≡ honest_answer (circuit self.old).nodes (length (circuit self.old).order) };
 
-    /// Fills `out` with the polynomial of each claim on a binary node in its free level `j`, where all
-    /// levels but `j` are those of the claim's point.
+    /// Fills `out` with the polynomial of each claim on a binary node, claim by claim, in its free level
+    /// `j`: all other levels are at the claim's point.
     ///
     /// `on` says that the last answer was about this node at the free level above, `j + 1`, and that since
     /// then the node's points changed at that level alone, to one element for all claims. `goes_on` is what
@@ -85,7 +85,7 @@ pub trait Answers {
         ensures at_most { steps.new ≤ steps.old + most self.old node }
         ensures at_least { steps.old ≤ steps.new };
 
-    /// Is called after a session, which has this number.
+    /// Is called after a session, with that session's number.
     fn between(&mut self, session: u32)
         ensures circuit { circuit self.new ≡ circuit self.old }
         ensures most { most self.new ≡ most self.old };

@@ -13,8 +13,8 @@ use blic_model::{Circuit, Node};
 use std::alloc::Global;
 use std::marker::Model;
 
-/// The claims on a node: where their coordinates and their values start, how many claims there are,
-/// and how many coordinates each has.
+/// The claims on a node: their coordinates start at `start` and their values at `first`, there are
+/// `claims` of them, and each has `width` coordinates.
 #[derive(Clone, Copy, Debug, PartialEq, Eq)]
 pub struct Row {
     pub start: usize,
@@ -52,8 +52,8 @@ impl Model for Layout {
 }
 
 impl Layout {
-    /// The layout of a circuit. A count that fits no word, which no formula's circuit has, is told as
-    /// memory that ran out.
+    /// The layout of a circuit. A count that fits no machine word, which no formula's circuit has, is
+    /// reported as out of memory.
     pub fn new(alloc: Global, circuit: &Circuit) -> Result<Layout, NoMem>
         ensures { IfOk result (λ l. l ≡ layout_of circuit.now) }
     {
@@ -91,7 +91,8 @@ impl Layout {
         &self.rows
     }
 
-    /// The places, among the claims on its children, of the first claim that a node hands down to each.
+    /// The places, among the claims on its children, of the first claim that a node hands down to each;
+    /// 0 for a child that it lacks.
     pub fn handed(&self, node: u32) -> (u32, u32)
         requires { node < length self.now.handed }
         ensures first { result.0 ≡ first_place self.now node }
@@ -108,7 +109,7 @@ impl Layout {
         self.row(node).claims
     }
 
-    /// The greatest number of claims on a binary node of the circuit, 0 where there is none.
+    /// The greatest number of claims on a binary node of the circuit, 0 if there is none.
     pub fn most_claims(&self, circuit: &Circuit) -> u32
         requires { self.now ≡ layout_of circuit.now }
         ensures most { HasMostClaims circuit.now result }
@@ -123,7 +124,7 @@ impl Layout {
         most
     }
 
-    /// The number of draws in a conversation.
+    /// The number of draws (challenges) in a conversation.
     pub fn draws(&self) -> u64
         ensures { (c : OrderedCircuit) → self.now ≡ layout_of c → result ≡ draws_of c.nodes (length c.order) }
     {

@@ -71,7 +71,7 @@ impl Points {
         &self.elements[start..start + width]
     }
 
-    /// Sets free level `j` of the node in every claim on it.
+    /// Sets free level `j` of the node to `r`, in the point of every claim on it.
     pub fn draw(&mut self, node: u32, j: u32, r: Fe)
         requires node { node < length self.old.rows }
         requires level { j < (row_at self.old.rows node).width }

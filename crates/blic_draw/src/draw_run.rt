@@ -25,7 +25,7 @@ impl Model for DrawRun {
 }
 
 impl DrawRun {
-    /// The draws of the seed from draw `first` on, of at most 2^61.
+    /// The draws of the seed from draw `first` on, which is at most 2^61.
     pub fn new(seed: [u8; 32], first: u64) -> DrawRun
         requires { first ≤ 2 ^ 61 }
         ensures { result ≡ record { source = record { seed = seed; first = first }; place = 0 } }
@@ -36,7 +36,7 @@ impl DrawRun {
         }
     }
 
-    /// The next draw.
+    /// The next draw, whose number in the run is below 2^60.
     pub fn next(&mut self) -> Fe
         requires { self.old.place < 2 ^ 60 }
         ensures draw { result ≡ draw_from self.old.source self.old.place }

@@ -8,9 +8,10 @@ use rand_core::SeedableRng;
 use rand_core::utils::NextWord;
 use std::marker::Model;
 
-/// The draws of a seed of 32 bytes, one after another. Draw t is made of words 2t and 2t+1 of the
-/// key stream of ChaCha20 (stream 0): of the 64 bits whose low half is the first word, the lowest 61
-/// are the element, and all ones are 0. So 0 comes from two patterns, every other element from one.
+/// The draws of a seed of 32 bytes, one after another. Draw t is made of words 2t and 2t+1 of the key
+/// stream of ChaCha20 (RFC 8439, with a 64-bit counter; stream 0): of the 64 bits whose low half is
+/// the first word, the lowest 61 are the element, and all ones are 0. So 0 comes from two patterns,
+/// every other element from one.
 #[derive(Drop)]
 pub struct Draws {
     seed: [u8; 32],
@@ -38,7 +39,7 @@ impl Draws {
         Draws::at(seed, 0)
     }
 
-    /// The draws of a seed from a place on, of at most 2^62.
+    /// The draws of a seed from draw `place` on, which is at most 2^62.
     pub fn at(seed: [u8; 32], place: u64) -> Draws
         requires { place ≤ 2 ^ 62 }
         ensures { result ≡ record { seed = seed; place = place } }
@@ -48,7 +49,7 @@ impl Draws {
         Draws { seed, place, words }
     }
 
-    /// The next draw.
+    /// The next draw, whose number is below 2^62.
     pub fn next(&mut self) -> Fe
         requires { self.old.place < 2 ^ 62 }
         ensures draw { result ≡ draw_at self.old.seed self.old.place }

@@ -1,4 +1,4 @@
-//! Draws of field elements from a seed, each by its number.
+//! Draws of field elements (the verifier's challenges) from a seed, each by its number.
 #![tactic(auto)]
 
 mod draw_run;

@@ -11,7 +11,7 @@ use blic_eval::Scratch;
 use blic_model::Circuit;
 use blic_solve::Plan;
 
-/// Makes the scratch be about the operands of a binary node. Where it is already, it isn't touched.
+/// Makes the scratch be about the operands of a binary node. If it is already, it isn't touched.
 pub(crate) fn begin(
     circuit: &Circuit,
     plan: &Plan,

@@ -17,7 +17,8 @@ use std::sync::ledger::Ledger;
 
 /// One worker's place at an engine: answers about the engine's circuit, with the room that they take,
 /// so that no answer takes memory. For each claim it makes at most four products of elements for each
-/// decision of the circuit's functions and each pair of the node's operands. Contracts see the circuit.
+/// decision (node of a BDD) of the circuit's functions and each pair of the node's operands (their
+/// product). Contracts see the circuit.
 ///
 /// It keeps the decisions that the operands of the last node led to, so that answers about one node,
 /// one after another, look for them once.
@@ -44,7 +45,7 @@ impl<'e> Model for Desk<'e> {
 impl<'e> Desk<'e> {
     /// A place with room for the engine's decisions, for its largest graph and for one point.
     /// `drop_every` is the number of sessions after which a worker's own cells are dropped, of which
-    /// this version has none. Fails only for want of memory.
+    /// this version has none. The only error is out of memory.
     pub fn new(alloc: Global, engine: &'e Engine<'e>, _drop_every: u32) -> Result<Desk<'e>, NoMem>
         ensures { IfOk result (λ desk. desk ≡ engine.now) }
     {

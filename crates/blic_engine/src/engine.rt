@@ -8,7 +8,7 @@ use blic_solve::{Plan, SolveError};
 use std::alloc::Global;
 use std::marker::Model;
 
-/// A circuit and the decision diagrams of its nodes. Workers share one, each by a desk of its own.
+/// A circuit and the decision diagrams (BDDs) of its nodes. Workers share one, each by a desk of its own.
 /// Contracts see the circuit.
 #[derive(Drop)]
 pub struct Engine<'c> {
@@ -29,13 +29,13 @@ impl<'c> Model for Engine<'c> {
 }
 
 impl<'c> Engine<'c> {
-    /// Solves the circuit, within at most `nodes` decisions of all nodes' functions and at most
-    /// `pairs` pairs of binary nodes' operands together. `cells` is the number of cells that workers
-    /// share, of which this version has none.
+    /// Solves the circuit, within at most `nodes` decisions (nodes of BDDs) of all nodes' functions
+    /// and at most `pairs` pairs of binary nodes' operands together. `cells` is the number of cells
+    /// that workers share, of which this version has none.
     ///
-    /// Refuses exactly where the nodes up to one have more subfunctions or more pairs of them than is
-    /// allowed, and names the first such node; where it passes both limits, that of pairs is told.
-    /// Only want of memory is free.
+    /// Refuses exactly if the nodes up to some node have more subfunctions (cofactors) or more pairs of
+    /// them than is allowed, and names the first such node; if it passes both limits, that of pairs is
+    /// reported. Only out of memory comes without such a cause.
     pub fn new(
         alloc: Global,
         circuit: &'c Circuit,

@@ -14,7 +14,7 @@ pub(crate) struct Join {
     pub(crate) second: u32,
 }
 
-/// The operation and the operands of a binary node: `None` where it is another node.
+/// The operation and the operands of a binary node: `None` if it is another node.
 pub(crate) fn join_of(node: Node) -> Option<Join>
     ensures some { IfSome result (λ join. node ≡ node_of join.op join.first join.second) }
     ensures none { IfNone result (is_binary node ≡ false) }

@@ -1,4 +1,4 @@
-//! Answers about a circuit by decision diagrams, which are made once for all workers.
+//! Answers about a circuit by decision diagrams (BDDs), which are made once for all workers.
 #![tactic(auto)]
 
 mod about;

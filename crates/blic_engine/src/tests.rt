@@ -98,7 +98,7 @@ fn polys<A: Answers, L: Ledger>(
     answers.polys(points, node, j, false, out, &mut steps);
 }
 
-// The values of a binary node's operands, where it has one claim.
+// The values of a binary node's operands, if it has one claim.
 fn values<A: Answers, L: Ledger>(
     answers: &mut A,
     points: &Points,

@@ -22,7 +22,7 @@ line_of lines zero = record { c0 = 0; c1 = 0 }
 line_of lines (suc zero) = record { c0 = 1; c1 = 0 }
 line_of lines (suc (suc k)) = slice_index_or lines k (record { c0 = 0; c1 = 0 })
 
--- `a` is the polynomial of ref r in the variable of `level`, where the other levels are at the point s
+-- `a` is the polynomial of ref r in the variable of `level`, with the other levels at the point s
 pub record IsLine (nodes : List Decision) (levels level : ℕ) (s : Point) (r : ℕ) (a : Lin) : Type 0 where
   pub elements : LinHasElements a
   pub values : (t : ℕ) → lin_at a t ≡ extension (function nodes r) levels (put s level t)

@@ -1,4 +1,4 @@
--- The decisions that two functions of a store lead to, in a list.
+-- The decisions (nodes of BDDs) that two functions of a store lead to, in a list.
 use Rattle.std.specs.Prelude.{ℕ, ◌+◌, ◌<◌, ◌≡◌, ◌⊎◌, List, length, slice_index_or}
 use Rattle.blic_store.specs.declared.decision.Decision.{Decision}
 use Rattle.blic_store.specs.Diagram.{decision_at, function}

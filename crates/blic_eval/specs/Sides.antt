@@ -36,7 +36,7 @@ abbrev pub is_under : ℕ → Side → Bool
 is_under n (Side.Pair j) = nat_le n j
 is_under n (Side.Done c d) = false
 
--- the values of a pair's refs, joined: its polynomial where its level is below
+-- the values of a pair's refs, joined: its polynomial if its level is below
 abbrev pub value_at : Op → List Pair → List Lin → ℕ → ℕ
 value_at op pairs lines j = joined op (line_of lines (pair_at pairs j).first).c0 (line_of lines (pair_at pairs j).second).c0
 
@@ -49,7 +49,7 @@ leaf_of Or c d = cond (c == 0) d (cond (d == 0) c 1)
 abbrev pub widened_of : Lin → Quadratic
 widened_of a = record { c0 = a.c0; c1 = a.c1; c2 = 0 }
 
--- the polynomial of a side by the tables, where the pairs from the nth on have no entry
+-- the polynomial of a side by the tables, in which the pairs from the nth on have no entry
 abbrev pub poly_of_side : Op → List Pair → ℕ → List Lin → List Quadratic → Side → Quadratic
 poly_of_side op pairs n lines polys (Side.Pair j) = cond (nat_le n j) (widened_of (record { c0 = value_at op pairs lines j; c1 = 0 })) (poly_at polys j)
 poly_of_side op pairs n lines polys (Side.Done c d) = widened_of (line_of lines (leaf_of op c d))
@@ -66,7 +66,7 @@ pub record HasTables (pairs : List Pair) (lines : List Lin) (x : Pair) : Type 0 
   pub low : IsInTables pairs lines x.low
   pub high : IsInTables pairs lines x.high
 
--- how the polynomial of a pair that is not under `level` comes from the tables: above it is on the way between those of its sides, and at the level its functions are joined
+-- how the polynomial of a pair that is not under `level` comes from the tables: above it is on the line between those of its sides, and at the level its functions are joined
 pub record IsPairPoly (op : Op) (level : ℕ) (s : Point) (pairs : List Pair) (n : ℕ) (lines : List Lin) (polys : List Quadratic) (x : Pair) (q : Quadratic) : Type 0 where
   pub elements : HasElements q
   pub above : x.level < level → (t : ℕ) → at q t ≡ blend (s x.level) (at (poly_of_side op pairs n lines polys x.low) t) (at (poly_of_side op pairs n lines polys x.high) t)
@@ -77,7 +77,7 @@ unfoldable pub reduced_joined : Op → List Decision → ℕ → ℕ → ℕ →
 reduced_joined op nodes levels level c d =
     fold linearize (λ p. joined op (extension (function nodes c) levels p) (extension (function nodes d) levels p)) (below level)
 
--- the polynomial of refs c and d joined, where the other levels are at the point s
+-- the polynomial of refs c and d joined, with the other levels at the point s
 pub record IsJoined (op : Op) (nodes : List Decision) (levels level : ℕ) (s : Point) (c d : ℕ) (q : Quadratic) : Type 0 where
   pub elements : HasElements q
   pub values : (t : ℕ) → at q t ≡ reduced_joined op nodes levels level c d (put s level t)

@@ -1,4 +1,4 @@
-//! The polynomials of functions that are held as decision diagrams.
+//! The polynomials of functions that are held as decision diagrams (BDDs).
 #![tactic(auto)]
 
 mod laws;

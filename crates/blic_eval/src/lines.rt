@@ -11,8 +11,8 @@ use blic_poly2::Lin;
 use blic_store::{Ref, Store};
 use std::sync::ledger::Ledger;
 
-/// The polynomials of the decisions that two functions lead to, in the variable of `level`, where the
-/// other levels are at the point. At most two products a decision.
+/// The polynomials of the decisions that two functions lead to, in the variable of `level`, with the
+/// other levels at the point. At most two products of elements a decision.
 pub(crate) fn fill_lines<L: Ledger>(
     store: &Store,
     reached: &[u32],

@@ -19,12 +19,12 @@ use blic_poly2::{Lin, Poly2};
 use blic_store::{Ref, Store};
 use std::sync::ledger::Ledger;
 
-/// The polynomial, in the variable of `level`, of the operation on `a` and `b`, where all levels above
-/// `level` are made linear and the others are at the point. The graph lists the pairs of `a` and `b`.
-/// The scratch is about the two from then on.
+/// The polynomial, in the variable of `level`, of the operation on `a` and `b`, with all levels above
+/// `level` made linear and the others at the point, which has an element for each level. The graph
+/// lists the pairs of `a` and `b` (their product as BDDs). The scratch is about the two from then on.
 ///
 /// It makes at most 2*N + 4*P products of elements, where N is the number of the store's decisions
-/// and P that of the graph's pairs.
+/// (nodes of BDDs) and P that of the graph's pairs.
 pub fn poly<L: Ledger>(
     graph: &Graph,
     store: &Store,
@@ -53,12 +53,12 @@ pub fn poly<L: Ledger>(
     reached_poly(graph, store, op, a, b, level, point, scratch, steps)
 }
 
-/// The polynomial that `poly` tells, where the scratch is about `a` and `b` already: a scratch that is
+/// The polynomial that `poly` gives, if the scratch is about `a` and `b` already: a scratch that is
 /// about two functions answers many polynomials of theirs, and their decisions are not looked for again.
 ///
 /// It makes at most 2*N + 4*P products of elements, where N is the number of the decisions that `a`
 /// and `b` lead to and P that of the graph's pairs. Pairs whose level is below `level` cost nothing,
-/// but for one product where a pair above leads to one.
+/// but for one product each time that a pair above leads to one.
 pub fn reached_poly<L: Ledger>(
     graph: &Graph,
     store: &Store,
@@ -249,7 +249,7 @@ fn is_under(under: u32, side: &Side) -> bool
     }
 }
 
-// The polynomial of a side, by one product where it is a pair under the level.
+// The polynomial of a side, by one product if it is a pair under the level.
 fn side_poly<L: Ledger>(
     graph: &Graph,
     under: u32,

@@ -14,7 +14,8 @@ use std::marker::Model;
 use std::vec::Vec;
 
 /// Room for evaluating functions of a store: no other call of this crate takes memory. Contracts see
-/// how many decisions and how many pairs it has room for, and the decisions that it is about.
+/// how many decisions (nodes of BDDs) and how many pairs it has room for, and the decisions that it is
+/// about.
 ///
 /// Once it is about two functions, it serves any number of their polynomials and values, and their
 /// decisions are not looked for again.

@@ -14,7 +14,7 @@ use std::marker::Brand;
 use std::sync::ledger::{Blank, Ledger};
 use std::test::Fail;
 
-// Makes the function, where its condition holds.
+// Makes the function, if its condition holds.
 fn made(store: &mut Store, level: u32, lo: Ref, hi: Ref) -> Result<Ref, Fail> {
     if !store.holds(lo) || !store.holds(hi) {
         return Err("a ref of another store")?;

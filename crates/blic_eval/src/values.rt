@@ -13,8 +13,9 @@ use blic_poly2::Lin;
 use blic_store::{Ref, Store};
 use std::sync::ledger::Ledger;
 
-/// The values of both functions at the point. The scratch is about the two from then on. It makes at
-/// most two products of elements for each decision of the store.
+/// The values of both functions at the point, which has an element for each level. The scratch is about
+/// the two from then on. It makes at most two products of elements for each decision (node of a BDD)
+/// of the store.
 pub fn pair_values<L: Ledger>(
     store: &Store,
     a: Ref,
@@ -39,7 +40,7 @@ pub fn pair_values<L: Ledger>(
     reached_values(store, a, b, point, scratch, steps)
 }
 
-/// The values of both functions at the point, where the scratch is about the two already. It makes at
+/// The values of both functions at the point, if the scratch is about the two already. It makes at
 /// most one product of elements for each decision that they lead to.
 pub fn reached_values<L: Ledger>(
     store: &Store,

@@ -35,7 +35,7 @@ impl Fe {
     /// The element 1.
     pub const ONE: Fe = Fe { value: 1 };
 
-    /// The element with this number. There is none from `MODULUS` on.
+    /// The element with this number: `None` from `MODULUS` on.
     pub fn from_u64(n: u64) -> Option<Fe>
         ensures value { IfSome result (λ element. element ≡ n) }
         ensures none { IsNone result ↔ (modulus ≤ n) }
@@ -62,7 +62,7 @@ impl Fe {
         self.value
     }
 
-    /// The sum.
+    /// The sum, modulo `MODULUS`.
     #[tactic(auto, unfolding(crate::specs::Field::add))]
     pub fn add(self, other: Fe) -> Fe
         ensures { result ≡ add self other }
@@ -72,7 +72,7 @@ impl Fe {
         }
     }
 
-    /// The difference.
+    /// The difference, modulo `MODULUS`.
     #[tactic(auto, unfolding(crate::specs::Field::sub))]
     pub fn sub(self, other: Fe) -> Fe
         ensures { result ≡ sub self other }
@@ -82,7 +82,7 @@ impl Fe {
         }
     }
 
-    /// The negative, which is 0 at 0.
+    /// The negative, modulo `MODULUS`, which is 0 at 0.
     #[tactic(auto, unfolding(crate::specs::Field::neg))]
     pub fn neg(self) -> Fe
         ensures { result ≡ neg self }
@@ -92,7 +92,7 @@ impl Fe {
         }
     }
 
-    /// The product, which `steps` counts as one step.
+    /// The product, modulo `MODULUS`, which `steps` counts as one step.
     #[tactic(auto, unfolding(crate::specs::Field::mul))]
     pub fn mul<L: Ledger>(self, other: Fe, steps: &mut Steps<L>) -> Fe
         ensures product { result ≡ mul self other }

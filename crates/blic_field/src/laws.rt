@@ -20,7 +20,7 @@ pub fn ring_laws()
     ensures distrib { (a b c : ℕ) → mul a (add b c) ≡ add (mul a b) (mul a c) }
 {}
 
-/// A product is 0 only where a factor is, given that the modulus is prime. This crate has no proof of that.
+/// A product is 0 only if a factor is, given that the modulus is prime. This crate has no proof of that.
 pub fn no_zero_divisor_law()
     ensures { IsPrime modulus → (a b : ℕ) → a < modulus → b < modulus → mul a b ≡ 0 → (a ≡ 0) ⊎ (b ≡ 0) }
 {}

@@ -7,11 +7,11 @@ use blic_basic::NoMem;
 use blic_model::{Bound, Formula, Lit, Quant};
 use std::alloc::Global;
 
-/// The formula that says: each of `n` existential variables is the exclusive or of the one before and
-/// a universal variable, and the first is the first universal variable. With `truth` each universal
-/// variable stands before the existential one of its pair, which makes the formula true. Without it
-/// the last two entries of the prefix are swapped, which makes it false. Contracts say which formula
-/// it is, and nothing of its truth.
+/// The formula of `2n` variables that says: each of `n` existential variables is the exclusive or of
+/// the one before and a universal variable, and the first is the first universal variable; `n` is from
+/// 1 to 500. With `truth` each universal variable stands before the existential one of its pair, which
+/// makes the formula true. Without it the last two entries of the prefix are swapped, which makes it
+/// false. Contracts say which formula it is, and nothing of its truth.
 pub fn xor_chain(alloc: Global, n: u32, truth: bool) -> Result<Formula, NoMem>
     requires { (1 ≤ n) × (n ≤ 500) }
     ensures { IfOk result (λ f. f ≡ chain n truth) }

@@ -4,7 +4,7 @@ use blic_model::{Formula, Lit, Quant};
 use std::alloc::{AllocError, Global};
 use std::test::Fail;
 
-// The prefix, where an existential variable stands as a negative number.
+// The prefix, in which an existential variable stands as a negative number.
 fn prefix_of(alloc: Global, formula: &Formula) -> Result<Vec<i64>, AllocError> {
     let mut prefix = Vec::new(alloc);
     for bound in formula.prefix() {

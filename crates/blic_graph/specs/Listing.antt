@@ -18,7 +18,7 @@ pub record Found : Type 0 where
   pub start : ℕ
   pub queue : Queue
 
--- the hash of two functions, near where the first is the same and the second is near
+-- the hash of two functions, near if the first is the same and the second is near
 unfoldable pub hash_of : ℕ → ℕ → ℕ
 hash_of r s = (r * 663608941 + s) % 2 ^ 32
 
@@ -35,7 +35,7 @@ pub record IsEntered (pairs : List Pair) (start : ℕ) (hashes : List ℕ) : Typ
 abbrev pub IsMissing : List Pair → ℕ → ℕ → ℕ → Type 0
 IsMissing pairs start r s = (k : ℕ) → start ≤ k → StandsAt pairs k r s → ⊥
 
--- what a pair becomes where its level's bit is fixed
+-- what a pair becomes if its level's bit is fixed
 abbrev pub first_at : List Decision → Pair → Bool → ℕ
 first_at nodes x bit = cofactor nodes x.first x.level bit
 

@@ -1,4 +1,4 @@
--- The pairs of two functions: what both become where the same topmost levels are fixed, neither constant.
+-- The pairs of two functions: what both become if the same topmost levels are fixed, neither constant.
 use Rattle.std.specs.Prelude.{ℕ, ◌<◌, ◌≤◌, ◌≡◌, ◌≢◌, Bool, false, true, min, List, length, slice_index_or}
 use Rattle.blic_store.specs.declared.decision.Decision.{Decision}
 use Rattle.blic_store.specs.Function.{Same, after}

@@ -48,7 +48,7 @@ pub record Takes (old new : Queue) (r : Request) : Type 0 where
 abbrev pub WaitsAlike : Queue → Queue → Type 0
 WaitsAlike old new = (x : ℕ) (r : Request) → (IsWaiting new x r → IsWaiting old x r) × (IsWaiting old x r → IsWaiting new x r)
 
--- a number that falls where a request is taken
+-- a number that falls if a request is taken
 abbrev pub turns_left : Queue → ℕ
 turns_left q = (2 ^ 32 - q.level) * 2 ^ 64 + length q.left
 

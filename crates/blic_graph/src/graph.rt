@@ -25,7 +25,7 @@ pub enum GraphError {
 }
 
 /// The pairs of two functions of a store, each once, in rising order of level. A pair is what both
-/// functions become where the same topmost levels are fixed, neither constant. A pair takes 20 bytes.
+/// functions become if the same topmost levels are fixed, neither constant. A pair takes 20 bytes.
 #[derive(Drop)]
 pub struct Graph {
     pairs: Vec<Packed>,
@@ -44,11 +44,11 @@ impl Model for Graph {
 }
 
 impl Graph {
-    /// Lists the pairs of two functions of the store, that of the two themselves first; where one of
+    /// Lists the pairs of two functions of the store, that of the two themselves first; if one of
     /// them is constant there is none. The time grows with the number of pairs, and by the logarithm
     /// of the number of levels that wait at once.
     ///
-    /// Refuses with `PairsFull` exactly where there are more than `most` pairs: no list within
+    /// Refuses with `PairsFull` exactly if there are more than `most` pairs: no list within
     /// `most` has them all (`pairs_full_law`).
     pub fn list(
         alloc: Global,
@@ -123,7 +123,7 @@ impl Graph {
         self.pairs[k as usize].level
     }
 
-    /// What pair `k` becomes where its level's bit is 0, and where it is 1. The pairs that are named
+    /// What pair `k` becomes if its level's bit is 0, and if it is 1. The pairs that are named
     /// come later in the list.
     pub fn children(&self, k: u32) -> (Side, Side)
         requires { k < length self.now }

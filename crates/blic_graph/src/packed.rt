@@ -19,7 +19,7 @@ pub(crate) struct Packed {
 }
 
 /// The side in 4 bytes: the number of a pair, or by the top bits which of the two functions is
-/// constant, and the number of the other one. `None` where that has no room.
+/// constant, and the number of the other one. `None` if that has no room.
 pub(crate) fn pack(side: &Side) -> Option<u32>
     requires { IsPackable side.now }
     ensures { IfSome result (λ code. side_from code ≡ side.now) }

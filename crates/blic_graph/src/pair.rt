@@ -2,7 +2,7 @@
 
 use blic_store::Ref;
 
-/// What a pair becomes where its level's bit is fixed.
+/// What a pair becomes if its level's bit is fixed.
 #[derive(Clone, Copy, Debug, PartialEq, Eq)]
 pub enum Side {
     /// The pair with this number.
@@ -12,7 +12,7 @@ pub enum Side {
 }
 
 /// Two functions, neither constant, the topmost level at which one of them decides, and what they
-/// become where that level's bit is 0 and where it is 1.
+/// become if that level's bit is 0 and if it is 1.
 #[derive(Clone, Copy, Debug, PartialEq, Eq)]
 pub struct Pair {
     pub level: u32,

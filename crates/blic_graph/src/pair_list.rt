@@ -94,7 +94,7 @@ impl PairList {
         Graph::of(mem::replace(&mut self.pairs, none))
     }
 
-    /// Takes the buffer of a graph, where no pair is listed.
+    /// Takes the buffer of a graph, if no pair is listed.
     pub(crate) fn reuse(&mut self, graph: Graph) {
         self.start = 0;
         self.table.clear();
@@ -136,7 +136,7 @@ impl PairList {
         Ok(())
     }
 
-    /// Appends a pair of the level that has come. Its sides are what it becomes, and wait where
+    /// Appends a pair of the level that has come. Its sides are what it becomes, and wait if
     /// those are pairs.
     pub(crate) fn add(&mut self, store: &Store, first: Ref, second: Ref) -> Result<u32, GraphError>
         requires first_inner { IsInner store.now.nodes first }
@@ -161,7 +161,7 @@ impl PairList {
         Ok(n as u32)
     }
 
-    // The code of what a pair of the level that has come becomes at the bit, which waits where it is
+    // The code of what a pair of the level that has come becomes at the bit, which waits if it is
     // a pair.
     fn ask(
         &mut self,

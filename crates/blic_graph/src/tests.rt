@@ -5,7 +5,7 @@ use std::alloc::Global;
 use std::test::Fail;
 use std::vec::Vec;
 
-// Makes the function, where its condition holds.
+// Makes the function, if its condition holds.
 fn made(store: &mut Store, level: u32, lo: Ref, hi: Ref) -> Result<Ref, Fail> {
     if !store.holds(lo) || !store.holds(hi) {
         return Err("a ref of another store")?;
@@ -16,7 +16,7 @@ fn made(store: &mut Store, level: u32, lo: Ref, hi: Ref) -> Result<Ref, Fail> {
     Ok(store.make(level, lo, hi)?)
 }
 
-// Lists the pairs, where its condition holds, and shows each one.
+// Lists the pairs, if its condition holds, and shows each one.
 fn listed(
     alloc: Global,
     store: &Store,

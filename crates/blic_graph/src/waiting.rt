@@ -20,7 +20,7 @@ const DEEPEST: u32 = 4294967295;
 pub(crate) struct Request {
     pub first: Ref,
     pub second: Ref,
-    /// Twice the pair's number, and one more where the bit is 1.
+    /// Twice the pair's number, and one more if the bit is 1.
     pub place: u32,
 }
 
@@ -138,7 +138,7 @@ impl Waiting {
         self.level
     }
 
-    /// Gives up all requests, where a level has come.
+    /// Gives up all requests, if a level has come.
     pub(crate) fn begin(&mut self, level: u32)
         ensures level { self.new.level ≡ level }
         ensures none { (x : ℕ) (r : Request) → IsWaiting self.new x r → ⊥ }
@@ -208,7 +208,7 @@ impl Waiting {
         self.left.pop()
     }
 
-    // Goes on to the least level that is noted, where no request is left at the one that has come.
+    // Goes on to the least level that is noted, if no request is left at the one that has come.
     fn go_on(&mut self, alloc: Global) -> bool
         requires { length self.old.left ≡ 0 }
         ensures waiting { WaitsAlike self.old self.new }

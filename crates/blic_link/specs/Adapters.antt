@@ -12,7 +12,7 @@ pub record CountedDialer : Type 0 where
   pub faults : ℕ
   pub missed : ℕ
 
--- what the stream will give, if that is known: `Got n` took its first n bytes, `End` comes at its end, `Failed` took nothing
+-- what the stream will give, if that is known: `Got n` took its first n bytes, `End` says that it is at its end, `Failed` took nothing
 abbrev pub HasReceived : Option (List ℕ) → Option (List ℕ) → Received → List ℕ → Type 0
 HasReceived old new (received.Got n) buf = Consumes old new (take n buf)
 HasReceived old new received.End buf = IsAtEnd new

@@ -11,7 +11,7 @@ pub record Entry : Type 0 where
   pub coming : List ℕ
   pub faults : ℕ
 
--- where the entries are told after a link is hung up, they were told before, and so was what passed over the link
+-- if the entries are told after a link is hung up, they were told before, and so was what passed over the link
 abbrev pub HangsUp : Option (List Entry) → Option (List Entry) → Option (List Piece) → Option (List ℕ) → ℕ → Type 0
 HangsUp old new pieces coming faults =
     IfSome new (λ now. IsSomeAnd old (λ before. IsSomeAnd pieces (λ ps. IsSomeAnd coming (λ bytes.
@@ -22,12 +22,12 @@ abbrev pub Dials : {L : Type 0} → (L → Bool) → (L → Option (List Piece))
 Dials usable pieces faults (dialed.Link l) = (usable l ≡ true) × IfSome (pieces l) (λ ps. ps ≡ []) × (faults l ≡ 0)
 Dials usable pieces faults dialed.Failed = Unit {0}
 
--- a link is lent where one was dialed; only `Failed` raises the two counts
+-- a link is lent exactly if one was dialed; only `Failed` raises the two counts
 abbrev pub DialCounts : {L : Type 0} → ℕ → ℕ → ℕ → ℕ → Bool → Dialed L → Type 0
 DialCounts before now missed missed_now lent (dialed.Link l) = (now ≡ before) × (missed_now ≡ missed) × (lent ≡ true)
 DialCounts before now missed missed_now lent dialed.Failed = Rose before now × Rose missed missed_now × (lent ≡ false)
 
--- what holds of the link, where one was dialed
+-- what holds of the link, if one was dialed
 abbrev pub IfDialed : {L : Type 0} → Dialed L → (L → Type 0) → Type 0
 IfDialed (dialed.Link l) P = P l
 IfDialed dialed.Failed P = Unit {0}

@@ -2,17 +2,17 @@
 use Rattle.std.specs.Prelude.{◌≡◌, ℕ, List, [], ◌∷◌, ◌++◌}
 use Rattle.blic_link.specs.Passing.{Piece, Came, Went}
 
--- the front stands at the beginning of the bytes
+-- `front` is a prefix of the bytes
 abbrev pub Begins : List ℕ → List ℕ → Type 0
 Begins front bytes = (rest : List ℕ) × (bytes ≡ front ++ rest)
 
--- from where these bytes have come, and those were sent. `wanted` says what is to be sent once so many bytes have come
+-- it keeps pace from then on, once `came` has come and `went` was sent. `wanted` says what is to be sent in all once some bytes have come
 abbrev pub KeepsPaceFrom : (List ℕ → List ℕ) → List ℕ → List ℕ → List Piece → Type 0
 KeepsPaceFrom wanted came went [] = Begins went (wanted came)
 KeepsPaceFrom wanted came went (Came bytes ∷ pieces) = (went ≡ wanted came) × KeepsPaceFrom wanted (came ++ bytes) went pieces
 KeepsPaceFrom wanted came went (Went bytes ∷ pieces) = Begins went (wanted came) × KeepsPaceFrom wanted came (went ++ bytes) pieces
 
--- from the beginning
+-- it keeps pace from the beginning
 abbrev pub KeepsPace : (List ℕ → List ℕ) → List Piece → Type 0
 KeepsPace wanted pieces = KeepsPaceFrom wanted [] [] pieces
 

@@ -38,11 +38,11 @@ sent_bytes [] = []
 sent_bytes (Came bytes ∷ pieces) = sent_bytes pieces
 sent_bytes (Went bytes ∷ pieces) = bytes ++ sent_bytes pieces
 
--- these pieces more, where the pieces are told
+-- these pieces more, if the pieces are told
 abbrev pub with_pieces : Option (List Piece) → List Piece → Option (List Piece)
 with_pieces told more = option_map (λ pieces. pieces ++ more) told
 
--- `Got n` took the first n of the coming bytes, as one piece; `End` comes where nothing is coming; `Failed` took nothing
+-- `Got n` took the first n of the coming bytes, as one piece; `End` says that nothing is coming; `Failed` took nothing
 abbrev pub Receives : Option (List Piece) → Option (List Piece) → Option (List ℕ) → Option (List ℕ) → Received → List ℕ → Type 0
 Receives told told_now coming coming_now (received.Got n) buf =
     (0 < n) × (n ≤ length buf) × (told_now ≡ with_pieces told (Came (take n buf) ∷ [])) × (coming ≡ prepend_known (take n buf) coming_now)

@@ -16,7 +16,8 @@ pub enum Dialed<L> {
 pub trait Dialer {
     type L: Link;
 
-    /// An entry for each link that was hung up, in their order, where they are told.
+    /// An entry for each link that was hung up, in their order, if contracts can speak of them (if they
+    /// are told).
     ghost entries: { Self → Option (List Entry) };
 
     /// How many calls have failed, those of the links that were hung up included.
@@ -39,8 +40,8 @@ pub trait Dialer {
         ensures cause { DialCounts (faults self.old) (faults self.new) (missed self.old) (missed self.new) (is_lent self.new) result }
         ensures same { entries self.new ≡ entries self.old };
 
-    /// Takes the link back, and adds its faults to the count, which stops at its last value. It
-    /// takes no memory.
+    /// Takes the link back, and adds its faults to the count, which stops at 2^64 - 1. It takes no
+    /// memory.
     fn hang_up(&mut self, link: Self::L)
         requires { is_lent self.old ≡ true }
         ensures free { is_lent self.new ≡ false }

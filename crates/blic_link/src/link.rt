@@ -5,7 +5,7 @@ ghost use Rattle.blic_link.specs.Passing.{Piece, Receives, ReceiveCounts, Sends,
 /// What a receiving call answered.
 #[derive(Clone, Copy, Debug, PartialEq, Eq)]
 pub enum Received {
-    /// That many bytes, at least one, stand at the front of the buffer.
+    /// That many bytes, at least one, stand at the start of the buffer.
     Got(usize),
     /// Nothing more is coming.
     End,
@@ -27,10 +27,11 @@ pub trait Link: Drop {
     /// Whether it can be used.
     ghost is_usable: { Self → Bool };
 
-    /// The pieces that passed over it, in the order of the calls, where they are told.
+    /// The pieces that passed over it, in the order of the calls, if contracts can speak of them (if
+    /// they are told).
     ghost pieces: { Self → Option (List Piece) };
 
-    /// The bytes that are still coming, where they are told.
+    /// The bytes that are still coming, if they are told.
     ghost coming: { Self → Option (List ℕ) };
 
     /// How many of its calls have failed.
@@ -40,8 +41,8 @@ pub trait Link: Drop {
     fn usable(&self) -> bool
         ensures { result ≡ is_usable self.now };
 
-    /// Takes the next bytes into the front of `buf`, as many as the link wants. What stands in
-    /// `buf` behind them is not said.
+    /// Takes the next bytes to the start of `buf`, which is not empty, as many as the link wants. What
+    /// stands in `buf` behind them is not said.
     fn recv(&mut self, buf: &mut [u8]) -> Received
         requires usable { is_usable self.old ≡ true }
         requires room { 0 < length buf.old }
@@ -49,7 +50,7 @@ pub trait Link: Drop {
         ensures cause { ReceiveCounts (faults self.old) (faults self.new) result }
         ensures same { is_usable self.new ≡ is_usable self.old };
 
-    /// Sends bytes of the front of `piece`, as many as the link wants.
+    /// Sends a prefix of `piece`, which is not empty, as many bytes as the link wants.
     fn send(&mut self, piece: &[u8]) -> Sent
         requires usable { is_usable self.old ≡ true }
         requires some { 0 < length piece.now }

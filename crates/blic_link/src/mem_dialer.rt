@@ -65,7 +65,7 @@ impl MemDialer {
     }
 
     /// Whether a dialer can be made of these links: there are fewer than 2^32, nothing passed over
-    /// one of them, and no call of them failed, as of links that were just made.
+    /// one of them, and no call of them failed, which holds of links that were just made.
     pub fn fits(links: &[MemLink]) -> bool
         ensures { result ≡ fit_dialer links.now }
     {
@@ -133,8 +133,8 @@ impl Dialer for MemDialer {
         self.lent
     }
 
-    /// Gives the next of the links, whatever the address. It fails exactly where the call's number
-    /// is listed or no link is left.
+    /// Gives the next of the links, whatever the address. It fails exactly if the call's number is
+    /// listed or no link is left.
     fn dial(&mut self, _address: &str) -> Dialed<MemLink>
         requires { self.old.is_lent ≡ false }
         ensures link { Dials (λ _. true) (λ l. Some l.pieces) (λ l. l.faults) result }

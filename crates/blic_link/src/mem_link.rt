@@ -44,10 +44,10 @@ impl Model for MemLink {
 }
 
 impl MemLink {
-    /// A link over which the bytes `coming` come, and which passes at most `most` bytes in a call.
-    /// It has room for `room` bytes, received and sent ones together, whose memory is taken here:
-    /// 13 bytes for each. The calls of `recv` and `send` whose numbers are in `failing`, counted
-    /// together from 0, fail.
+    /// A link over which the bytes `coming` come, and which passes at most `most` bytes in a call;
+    /// `most` is at least 1. It has room for `room` bytes, fewer than 2^32, received and sent ones
+    /// together, whose memory is taken here: 13 bytes for each. The calls of `recv` and `send` whose
+    /// numbers are in `failing`, counted together from 0, fail.
     pub fn new(
         alloc: Global,
         coming: Vec<u8>,
@@ -144,8 +144,8 @@ impl Link for MemLink {
         true
     }
 
-    /// Takes as many bytes as `buf`, `most` and the room that is left allow. It fails exactly where
-    /// the call's number is listed or no room is left, also where nothing is coming.
+    /// Takes as many bytes as `buf`, `most` and the room that is left allow. It fails exactly if the
+    /// call's number is listed or no room is left, also if nothing is coming.
     #[tactic(auto, using(blic_basic::proofs::Appended::taken_bytes))]
     fn recv(&mut self, buf: &mut [u8]) -> Received
         requires room { 0 < length buf.old }
@@ -173,7 +173,7 @@ impl Link for MemLink {
         Received::Got(count)
     }
 
-    /// Sends as many bytes as `most` and the room that is left allow. It fails exactly where the
+    /// Sends as many bytes as `most` and the room that is left allow. It fails exactly if the
     /// call's number is listed or no room is left.
     fn send(&mut self, piece: &[u8]) -> Sent
         requires some { 0 < length piece.now }
@@ -204,7 +204,7 @@ pub(crate) fn is_listed(failing: &[u64], call: u64) -> bool
     failing.contains(&call)
 }
 
-// Copies the front of `rest` to the front of `buf`: as many bytes as both have, and at most `most`.
+// Copies a prefix of `rest` to the start of `buf`: as many bytes as both have, and at most `most`.
 fn copy_front(rest: &[u8], buf: &mut [u8], most: usize) -> usize
     requires rest { 0 < length rest.now }
     requires buf { 0 < length buf.old }

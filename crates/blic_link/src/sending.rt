@@ -11,7 +11,8 @@ use thiserror::Error;
 #[error("a call on the link failed")]
 pub struct LinkFault;
 
-/// Sends all of the bytes, in as many pieces as the link wants. It stops at the first fault.
+/// Sends all of the bytes, in as many pieces as the link wants. It stops at the first fault; then a
+/// prefix of the bytes was sent.
 pub fn send_all<K: Link>(link: &mut K, bytes: &[u8]) -> Result<(), LinkFault>
     requires usable { K.is_usable link.old ≡ true }
     ensures pieces { (pieces : List Piece) × (K.pieces link.new ≡ with_pieces (K.pieces link.old) pieces) × IsSending result pieces bytes.now }

@@ -11,7 +11,7 @@ use std::io::{Read, Write};
 use std::marker::Model;
 use std::net::{Net, OpenStream, TcpStream};
 
-/// A link over a stream, as of TCP. Contracts see the stream, and how many calls have failed. A
+/// A link over a stream, such as one of TCP. Contracts see the stream, and how many calls have failed. A
 /// call that was interrupted is a fault like any other. There is no timeout: `recv` waits for the
 /// peer as long as the stream does.
 #[derive(Drop)]
@@ -29,8 +29,8 @@ impl<S> Model for TcpLink<S> {
 }
 
 impl<S: Read + Write + OpenStream + Drop> TcpLink<S> {
-    /// A link over the stream, whose delay is taken off. A stream that keeps its delay is only
-    /// slower, which is no fault. No call has failed so far.
+    /// A link over the stream, whose sending delay is turned off (`TCP_NODELAY`). A stream that keeps
+    /// its delay is only slower, which is no fault. No call has failed so far.
     pub fn new(stream: S) -> TcpLink<S>
         ensures { result ≡ record { inner = stream; faults = 0 } }
     {
@@ -59,7 +59,7 @@ impl<S: Read + Write + Drop> Link for TcpLink<S> {
         true
     }
 
-    /// Reads from the stream, once.
+    /// Reads from the stream, once. It fails if that does.
     fn recv(&mut self, buf: &mut [u8]) -> Received
         requires room { 0 < length buf.old }
         ensures bytes { Receives None None None None result buf.new }
@@ -77,7 +77,7 @@ impl<S: Read + Write + Drop> Link for TcpLink<S> {
         }
     }
 
-    /// Writes to the stream, once. It fails where that does, and where no byte was written.
+    /// Writes to the stream, once. It fails if that does, and if no byte was written.
     fn send(&mut self, piece: &[u8]) -> Sent
         requires some { 0 < length piece.now }
         ensures bytes { Sends None None result piece.now }
@@ -156,8 +156,8 @@ impl<'a, N: Net> Dialer for TcpDialer<'a, N> {
         self.lent
     }
 
-    /// Connects to the address, a host or an IP address with a colon and a port. It fails where that
-    /// can't be resolved, and where no one answers there.
+    /// Connects to the address, a host or an IP address with a colon and a port. It fails if that can't
+    /// be resolved, and if no one answers there.
     fn dial(&mut self, address: &str) -> Dialed<TcpLink<N::Stream>>
         requires { self.old.is_lent ≡ false }
         ensures link { Dials (λ _. true) (λ _. None) (λ l. l.faults) result }

@@ -108,16 +108,31 @@ fn sending_all_stops_at_a_fault_with_the_exact_prefix(rt: HostRuntime) -> Result
     Ok(())
 }
 
-#[test]
-fn links_are_dialed_in_their_order_and_kept(rt: HostRuntime) -> Result<(), Fail> {
-    let alloc = rt.alloc();
+// Two links, which are dialed by a dialer whose second dial fails.
+fn dialer_of(alloc: Global) -> Result<MemDialer, Fail> {
     let first = link_of(alloc, "abc", &[1], 9)?;
     let second = link_of(alloc, "xyz", &[], 9)?;
     let links = vec![in alloc; first, second]?;
     if !MemDialer::fits(&links) {
         return Err(Fail::from("links that were just made"));
     }
-    let mut dialer = MemDialer::new(alloc, links, vec![in alloc; 1]?)?;
+    Ok(MemDialer::new(alloc, links, vec![in alloc; 1]?)?)
+}
+
+// Whether the link has these bytes left, these faults and these pieces, of which the second was sent.
+fn link_is(link: &MemLink, left: &str, faults: u64, pieces: &[&str]) -> bool {
+    link.left() == left.as_bytes()
+        && link.faults() == faults
+        && link.pieces() as usize == pieces.len()
+        && pieces
+            .iter()
+            .enumerate()
+            .all(|(i, bytes)| piece_is(link, i as u32, i == 1, bytes))
+}
+
+#[test]
+fn links_are_dialed_in_their_order_and_kept(rt: HostRuntime) -> Result<(), Fail> {
+    let mut dialer = dialer_of(rt.alloc())?;
     // the bytes of the link that is dialed, if there is one; the faults after it is hung up, and the failed dials
     let rows = [
         (Some("abc"), 1, 0),
@@ -140,24 +155,11 @@ fn links_are_dialed_in_their_order_and_kept(rt: HostRuntime) -> Result<(), Fail>
         }
         assert!(rt; dialer.faults() == faults && dialer.missed() == missed);
     }
-    assert_eq!(rt; dialer.entries(), 2);
-    // what was left, the pieces and the faults
-    let entries = [
-        ("c", ["ab"].as_slice(), 1),
-        ("z", ["xy", "q"].as_slice(), 0),
-    ];
-    for (i, (left, pieces, faults)) in entries.into_iter().enumerate() {
-        if i as u32 >= dialer.entries() {
-            return Err(Fail::from("an entry is missing"));
-        }
-        let entry = dialer.entry(i as u32);
-        assert_eq!(rt; entry.left(), left.as_bytes());
-        assert_eq!(rt; entry.faults(), faults);
-        assert_eq!(rt; entry.pieces() as usize, pieces.len());
-        for (j, bytes) in pieces.iter().enumerate() {
-            assert!(rt; piece_is(entry, j as u32, j == 1, bytes), "at {bytes:?}");
-        }
+    if dialer.entries() != 2 {
+        return Err(Fail::from("not two entries"));
     }
+    assert!(rt; link_is(dialer.entry(0), "c", 1, &["ab"]));
+    assert!(rt; link_is(dialer.entry(1), "z", 0, &["xy", "q"]));
     Ok(())
 }
 

@@ -28,7 +28,7 @@ same_node (And a b) (And c d) = (a == c) && (b == d)
 same_node (Or a b) (Or c d) = (a == c) && (b == d)
 same_node _ _ = false
 
--- the entry equal to n, which is appended where there is none
+-- the entry equal to n, which is appended if there is none
 unfoldable pub add_node : Node → List Node → Added
 add_node n nodes =
     let k = position_or_len (same_node n) nodes in
@@ -68,7 +68,7 @@ joined_by Forall z o = And z o
 abbrev pub stands_in : ℕ → List (List Lit) → Bool
 stands_in v clauses = list_any (list_any (λ l. l.var == v)) clauses
 
--- a level is taken away, unless its variable stands in no clause: both fixings of it, joined by its quantifier
+-- a level is eliminated, unless its variable stands in no clause: both fixings (cofactors) of it, joined by its quantifier
 unfoldable pub add_level : ℕ → Bound → List (List Lit) → Added → Added
 add_level k b clauses so_far =
     let z = add_node (Fix k false so_far.number) so_far.nodes in

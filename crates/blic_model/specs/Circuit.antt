@@ -35,7 +35,7 @@ by_children none step nodes k known = step k (node_at nodes k) (λ child. slice_
 unfoldable pub at_node : {A : Type 0} → A → (ℕ → Node → (ℕ → A) → A) → List Node → ℕ → A
 at_node none step nodes k = by_children none step nodes k (table (by_children none step nodes) k)
 
--- the levels that a node depends on: a variable on its own, a fixing on those of its child but the fixed one
+-- the levels that a node depends on (its support): a variable on its own, a fixing (cofactor) on those of its child but the fixed one
 abbrev pub free_step : ℕ → Node → (ℕ → ℕ → Bool) → ℕ → Bool
 free_step k (Const b) free x = false
 free_step k (Var y) free x = x == y

@@ -18,7 +18,7 @@ pub record HasLevels (nodes : List Node) (levels : ℕ) : Type 0 where
   pub few : levels < 4294967296
   pub within : (k : ℕ) → k < length nodes → levels_below levels (node_at nodes k) ≡ true
 
--- the claims on node k, where it is binary
+-- the claims on node k, if it is binary
 abbrev pub binary_claims : List Node → ℕ → ℕ
 binary_claims nodes k = cond (is_binary (node_at nodes k)) (claims nodes k) 0
 

@@ -31,7 +31,7 @@ claims_entry nodes (suc n) known =
 unfoldable pub claims : List Node → ℕ → ℕ
 claims nodes k = claims_entry nodes (root nodes - k) (table (claims_entry nodes) (root nodes - k))
 
--- a draw for each free level of each binary node
+-- a draw (challenge) for each free level of each binary node
 unfoldable pub draws : List Node → ℕ → ℕ
 draws nodes levels = sum_by (λ k. cond (is_binary (node_at nodes k)) (length (free nodes levels k)) 0) (below (length nodes))
 

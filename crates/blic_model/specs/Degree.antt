@@ -19,6 +19,6 @@ IsLinear f x = (s : Point) → IsPoint s → (a : ℕ) × (b : ℕ) × ((t : ℕ
 abbrev pub IsQuadratic : (Point → ℕ) → ℕ → Type 0
 IsQuadratic f x = (s : Point) → IsPoint s → (a : ℕ) × (b : ℕ) × (c : ℕ) × ((t : ℕ) → t < modulus → f (put s x t) ≡ add a (add (mul b t) (mul c (mul t t))))
 
--- f gives one value where two points, or assignments, agree at each level of the test
+-- f gives two points, or assignments, the same value if they agree at each level of the test
 abbrev pub DependsOn : {A : Type 0} → ((ℕ → A) → ℕ) → (ℕ → Bool) → Type 0
 DependsOn {A} f test = (s r : ℕ → A) → ((x : ℕ) → test x ≡ true → s x ≡ r x) → f s ≡ f r

@@ -79,7 +79,7 @@ abbrev pub ReducedIsLinear : Type 0
 ReducedIsLinear =
     (nodes : List Node) (levels k i j : ℕ) → j < i → j < length (free nodes levels k) → IsLinear (part nodes levels k i) (free_level nodes levels k j)
 
--- where no level is reduced, the part is the operands combined
+-- if no level is reduced, the part is the operands combined
 abbrev pub FirstPart : Type 0
 FirstPart = (nodes : List Node) (levels k : ℕ) (s : Point) → part nodes levels k 0 s ≡ combined (node_at nodes k) (value nodes levels) s
 
@@ -89,7 +89,7 @@ NextPart =
     (nodes : List Node) (levels k i : ℕ) → i < length (free nodes levels k)
     → (s : Point) → part nodes levels k (i + 1) s ≡ linearize (part nodes levels k i) (free_level nodes levels k i) s
 
--- where each level is reduced, the part of a binary node is its value
+-- if each level is reduced, the part of a binary node is its value
 abbrev pub LastPart : Type 0
 LastPart =
     (nodes : List Node) (levels : ℕ) → IsOrdered nodes → (k : ℕ) → is_binary (node_at nodes k) ≡ true

@@ -5,7 +5,7 @@ use Rattle.blic_model.specs.declared.circuit.CircuitError.{CircuitError}
 use Rattle.blic_model.specs.declared.circuit.CircuitError.TheVariants.{TooManyClaims, TooManyPoints, NoMem}
 use Rattle.blic_model.specs.CircuitLimits.{IsGreatestOver, HasManyPoints}
 
--- the cause of each refusal: the greatest binary node past the limit on claims; where there is none, the points; want of memory alone is free
+-- the cause of each refusal: the greatest binary node past the limit on claims; if there is none, the points; only out of memory has none
 abbrev pub IsCause : List Node → ℕ → CircuitError → Type 0
 IsCause nodes levels (TooManyClaims k count) = IsGreatestOver nodes k count
 IsCause nodes levels (TooManyPoints count) = HasManyPoints nodes levels count

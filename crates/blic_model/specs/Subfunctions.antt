@@ -1,4 +1,4 @@
--- How many different subfunctions the nodes of a circuit have. No program computes these numbers.
+-- How many different subfunctions (cofactors by the topmost levels) the nodes of a circuit have. No program computes these numbers.
 use Rattle.std.specs.Prelude.{ℕ, zero, suc, Bool, true, false, not, ◌&&◌, List, [], ◌∷◌, ◌++◌, slice_index_or, map, flat_map, filter, drop, length, sum_by}
 use Rattle.std.specs.List.{list_any}
 use Rattle.std.specs.Set.{distinct_count}
@@ -40,7 +40,7 @@ subfunctions nodes levels k = flat_map (λ j. map (subfunction nodes levels j) (
 unfoldable pub size : List Node → ℕ → ℕ → ℕ
 size nodes levels k = distinct_count same_function (filter (λ f. not (is_constant f)) (subfunctions nodes levels k))
 
--- pairs are the same where both components are, in this order
+-- pairs are the same if both components are, in this order
 abbrev pub same_pair : List Bool × List Bool → List Bool × List Bool → Bool
 same_pair p q = same_function p.0 q.0 && same_function p.1 q.1
 

@@ -11,11 +11,11 @@ use Rattle.blic_model.specs.Formula.{PrenexFormula}
 abbrev pub literal_holds : (ℕ → Bool) → Lit → Bool
 literal_holds a l = cond l.negative (not (a l.var)) (a l.var)
 
--- a clause holds where one of its literals does
+-- a clause holds if one of its literals does
 abbrev pub clause_holds : (ℕ → Bool) → List Lit → Bool
 clause_holds a literals = list_any (literal_holds a) literals
 
--- the clauses hold where each of them does
+-- the clauses hold if each of them does
 abbrev pub matrix_holds : (ℕ → Bool) → List (List Lit) → Bool
 matrix_holds a clauses = list_all (clause_holds a) clauses
 
@@ -28,7 +28,7 @@ abbrev pub quantified : Quant → Bool → Bool → Bool
 quantified Exists low high = low || high
 quantified Forall low high = low && high
 
--- the truth of clauses under a prefix, where the assignment has the values of the variables outside it
+-- the truth of clauses under a prefix; the assignment has the values of the variables outside it
 abbrev pub truth_under : List Bound → List (List Lit) → (ℕ → Bool) → Bool
 truth_under [] clauses a = matrix_holds a clauses
 truth_under (b ∷ inner) clauses a =

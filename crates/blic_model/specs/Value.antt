@@ -29,7 +29,7 @@ Point = ℕ → ℕ
 abbrev pub bit : Bool → ℕ
 bit b = cond b 1 0
 
--- f made linear in level x: on the line through its values where the level is 0 and where it is 1
+-- f made linear in level x: on the line through its values with the level at 0 and at 1
 unfoldable pub linearize : (Point → ℕ) → ℕ → Point → ℕ
 linearize f x s = blend (s x) (f (put s x 0)) (f (put s x 1))
 

@@ -55,7 +55,7 @@ impl Model for Circuit {
 
 impl Circuit {
     /// The circuit of these nodes over an order from level to variable. `shaped` tests the
-    /// condition. Too many claims are told before too many points.
+    /// condition. Too many claims are reported before too many points.
     #[tactic(auto, using(crate::proofs::KeptLists::tabled_read, crate::proofs::KeptLists::levels_read))]
     pub fn new(
         alloc: Global,
@@ -146,7 +146,7 @@ impl Circuit {
         self.version
     }
 
-    /// How many levels node `i` depends on.
+    /// How many levels node `i` depends on: its free levels (the support).
     pub fn free_count(&self, i: u32) -> u32
         requires { i < length self.now.nodes }
         ensures { result ≡ length (free_levels_of self.now.nodes (length self.now.order) i) }
@@ -163,7 +163,7 @@ impl Circuit {
         self.free.level(i as usize, j as usize)
     }
 
-    /// What each circuit keeps to.
+    /// A law: each circuit has a circuit's shape, and is within the limits.
     pub fn is_within_limits(&self)
         ensures shaped { IsShaped self.now.nodes (length self.now.order) }
         ensures limits { IsWithinLimits self.now.nodes (length self.now.order) }

@@ -5,7 +5,7 @@ use crate::{Circuit, CircuitError, Node};
 use std::alloc::Global;
 use std::test::Fail;
 
-// The circuit, where the nodes are one.
+// The circuit, if the nodes are one.
 fn circuit_of(
     alloc: Global,
     nodes: &[Node],

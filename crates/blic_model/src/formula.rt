@@ -94,7 +94,7 @@ impl Formula {
         &self.clauses[i as usize]
     }
 
-    /// What each formula keeps to.
+    /// A law: each formula is within the limits of formulas.
     pub fn is_within_limits(&self)
         ensures { IsFormula self.now }
     {

@@ -171,7 +171,7 @@ fn part_without(levels: &[u32], at: Stretch, left_out: u32) -> Option<Stretch>
     Some(at)
 }
 
-// The place of a level, or the length where there is none.
+// The place of a level, or the length if there is none.
 fn place_of(levels: &[u32], level: u32) -> usize
     ensures { result ≡ position_or_len (λ x. x == level) levels.now }
 {

@@ -20,7 +20,7 @@ impl LevelSet {
         LevelSet { low: 0, high: 0 }
     }
 
-    /// The level alone; no level, where it is not one of the 256 from the first one on.
+    /// The level alone; no level, if it is not one of the 256 from the first one on.
     pub(crate) fn of(first: u64, level: u32) -> LevelSet
         requires { first ≤ 4294967296 }
         ensures { result ≡ set_where (λ x. x == level) first }
@@ -65,7 +65,7 @@ impl LevelSet {
     }
 }
 
-// The level's bit among 128 from the first one on; none where it isn't one of them.
+// The level's bit among 128 from the first one on; none if it isn't one of them.
 fn bit(first: u64, level: u32) -> u128
     ensures { result ≡ word (λ x. x == level) first }
 {

@@ -63,7 +63,7 @@ fn binds_once(vars: u32, prefix: &[Bound], marks: &mut [bool]) -> bool
     true
 }
 
-// Marks a variable, where it is in range and not marked yet.
+// Marks a variable, if it is in range and not marked yet.
 fn mark(vars: u32, marks: &mut [bool], var: u32) -> bool
     requires { length marks.old ≡ vars + 1 }
     ensures may { result ≡ (nat_lt 0 var && nat_le var vars && not (marked_by marks.old var)) }

@@ -9,18 +9,18 @@ pub enum Node {
     Const(bool),
     /// The value of the level's variable.
     Var(u32),
-    /// The other value of the child.
+    /// The child's negation.
     Not(u32),
-    /// The child, with the level's variable fixed to the bit.
+    /// A cofactor of the child: the level's variable is fixed to the bit.
     Fix { level: u32, bit: bool, child: u32 },
-    /// Both children.
+    /// The children's conjunction.
     And(u32, u32),
-    /// One of the children, or both.
+    /// The children's disjunction.
     Or(u32, u32),
 }
 
 impl Node {
-    /// Whether it joins two nodes.
+    /// Whether it is an `And` or an `Or`.
     pub fn is_binary(self) -> bool
         ensures { result ≡ is_binary_node self }
     {

@@ -4,8 +4,8 @@ use Rattle.blic_model.specs.declared.node.Node.{Node}
 use Rattle.blic_model.specs.declared.node.Node.TheVariants.{Const, Var, Not, Fix, And, Or}
 use Rattle.blic_model.specs.Circuit.{node_at, at_node, free}
 
--- those of a binary node with its first i free levels made linear, where those of the operands combined are given: each level
--- takes the part before twice, and two for the blend
+-- those of a binary node with its first i free levels made linear, given those of the operands combined: each level takes the
+-- part before twice, and two for the blend
 abbrev pub part_products : ℕ → ℕ → ℕ
 part_products combined zero = combined
 part_products combined (suc i) = 2 * part_products combined i + 2

@@ -37,7 +37,7 @@ pub(crate) fn element_at(circuit: &Circuit, point: &Chain<'_>, level: u32) -> Fe
     }
 }
 
-// The element of a claim's point at a level: 0 where the level is not free.
+// The element of a claim's point at a level: 0 if the level is not free.
 fn stored_at(circuit: &Circuit, points: &Points, node: u32, claim: u32, level: u32) -> Fe
     requires points { ArePointsOf points.now circuit.now }
     requires node { node < length circuit.now.nodes }

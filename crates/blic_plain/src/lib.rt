@@ -1,4 +1,4 @@
-//! Answers about a circuit by the recursion that the definitions are, without memory.
+//! Answers about a circuit by the recursion that the definitions are. They take no memory.
 #![tactic(auto)]
 
 mod chain;

@@ -15,8 +15,8 @@ use blic_poly2::Poly2;
 use std::marker::{Brand, Model};
 use std::sync::ledger::{Blank, Ledger};
 
-/// Answers by the definitions of value and degree reduction, without memory. It is for small circuits:
-/// the time doubles with each free level. Contracts see the circuit.
+/// Answers by the definitions of value and degree reduction, and takes no memory. It is for small
+/// circuits: the time doubles with each free level. Contracts see the circuit.
 #[derive(Drop)]
 pub struct Plain<'c> {
     circuit: &'c Circuit,
@@ -31,7 +31,7 @@ impl<'c> Model for Plain<'c> {
 }
 
 impl<'c> Plain<'c> {
-    /// What answers about this circuit.
+    /// Answers about this circuit.
     pub fn new(circuit: &'c Circuit) -> Plain<'c>
         ensures { result ≡ circuit.now }
     {

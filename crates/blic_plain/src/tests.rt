@@ -139,7 +139,7 @@ fn draw_all(circuit: &Circuit, points: &mut Points, node: u32, r: Fe)
     }
 }
 
-// The values of the operands of a node with at most one free level, where that is drawn.
+// The values of the operands of a node with at most one free level, if that is drawn.
 fn values_counted<L: Ledger>(
     circuit: &Circuit,
     points: &mut Points,

@@ -10,7 +10,7 @@ pub fn interpolation_law()
     ensures back { (p : Quadratic) → HasElements p → interpolate (at p) ≡ p }
     ensures elements { (f : ℕ → ℕ) → f 0 < modulus → HasElements (interpolate f) }
 
-    // where f is a polynomial, it is the one through its values
+    // if f is a polynomial, it is the one through its values
     ensures values { (f : ℕ → ℕ) (p : Quadratic) → ((x : ℕ) → x < modulus → f x ≡ at p x)
         → (x : ℕ) → x < modulus → at (interpolate f) x ≡ f x }
     ensures unique { (p q : Quadratic) → HasElements p → HasElements q
@@ -37,7 +37,8 @@ pub fn reducing_law()
     ensures linear { (p : Quadratic) (s : ℕ) → reduced_at p s ≡ add p.c0 (mul s (add p.c1 p.c2)) }
 {}
 
-/// The product and the or of two linear polynomials are of degree at most two, and are taken at each point.
+/// The product and the or of two linear polynomials are polynomials of degree at most two. Their value at each point is the
+/// product, or the or, of the values there.
 pub fn product_law()
     ensures product { (a b : Lin) (x : ℕ)
         → at (record { c0 = mul a.c0 b.c0; c1 = add (mul a.c0 b.c1) (mul a.c1 b.c0); c2 = mul a.c1 b.c1 }) x

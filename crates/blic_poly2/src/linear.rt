@@ -17,7 +17,7 @@ pub struct Lin {
 }
 
 impl Lin {
-    /// The polynomial on the way from `a` to `b`: `a` where `s` is 0 and `b` where it is 1. At most two products.
+    /// The polynomial at `s` on the line from `a` to `b`: `a` if `s` is 0 and `b` if it is 1. At most two products of elements.
     pub fn blend<L: Ledger>(s: Fe, a: &Lin, b: &Lin, steps: &mut Steps<L>) -> Lin
         ensures values { (x : ℕ) → lin_at result x ≡ blend s (lin_at a.now x) (lin_at b.now x) }
         ensures elements { LinHasElements result }

@@ -29,7 +29,7 @@ impl Model for Poly2 {
 }
 
 impl Poly2 {
-    /// The value at `x`. At most two products.
+    /// The value at `x`. At most two products of elements.
     pub fn at<L: Ledger>(&self, x: Fe, steps: &mut Steps<L>) -> Fe
         ensures value { result ≡ at self.now x }
         ensures at_most { steps.new ≤ steps.old + 2 }
@@ -39,7 +39,7 @@ impl Poly2 {
         self.c0.add(slope.mul(x, steps))
     }
 
-    /// The value at `s` of the line through the values at 0 and 1. At most one product.
+    /// The value at `s` of the line through the values at 0 and 1. At most one product of elements.
     pub fn reduced_at<L: Ledger>(&self, s: Fe, steps: &mut Steps<L>) -> Fe
         ensures value { result ≡ reduced_at self.now s }
         ensures at_most { steps.new ≤ steps.old + 1 }
@@ -48,7 +48,7 @@ impl Poly2 {
         self.c0.add(s.mul(self.c1.add(self.c2), steps))
     }
 
-    /// The polynomial on the way from `p0` to `p1`: `p0` where `s` is 0 and `p1` where it is 1. At most three products.
+    /// The polynomial at `s` on the line from `p0` to `p1`: `p0` if `s` is 0 and `p1` if it is 1. At most three products of elements.
     pub fn blend<L: Ledger>(s: Fe, p0: &Poly2, p1: &Poly2, steps: &mut Steps<L>) -> Poly2
         ensures values { (x : ℕ) → at result x ≡ blend s (at p0.now x) (at p1.now x) }
         ensures elements { HasElements result }

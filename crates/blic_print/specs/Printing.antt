@@ -16,7 +16,7 @@ piece_text (Number n) = decimal n
 abbrev pub text_of_pieces : List Piece → List ℕ
 text_of_pieces pieces = flat_map piece_text pieces
 
--- the whole text is appended; or a front of it, where a call failed
+-- the whole text is appended; or a prefix of it, if a call failed
 abbrev pub Prints : Option (List ℕ) → Option (List ℕ) → Result Unit WriteFault → List ℕ → Type 0
 Prints old new (Ok u) text = new ≡ append_known old text
 Prints old new (Err e) text = (n : ℕ) × (new ≡ append_known old (take n text))

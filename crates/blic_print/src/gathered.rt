@@ -37,7 +37,7 @@ impl Gathered {
         }
     }
 
-    /// Puts the bytes behind those that wait. Where there is no room, those that wait are written first.
+    /// Puts the bytes behind those that wait. If there is no room, those that wait are written first.
     pub(crate) fn put<O: Sink>(&mut self, out: &mut O, bytes: &[u8]) -> Result<(), WriteFault>
         ensures bytes { Gathers (O.held out.old) (O.held out.new) result (self.old ++ bytes.now) self.new }
         ensures cause { PrintCounts (O.faults out.old) (O.faults out.new) result }

@@ -1,4 +1,4 @@
-//! Printing without memory: texts of pieces, and the lines of frames.
+//! Printing that takes no memory: texts of pieces, and the lines of frames.
 #![tactic(auto)]
 
 mod frame;

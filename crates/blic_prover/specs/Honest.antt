@@ -26,7 +26,7 @@ pub data Progress : Type 0 where
 abbrev pub same_hello : HelloOf → HelloOf → Bool
 same_hello g h = (g.wire == h.wire) && (g.circuit == h.circuit) && (g.order == h.order) && bytes_eq g.digest h.digest
 
--- reply t after the answer, where the ask is the one that stands there: the honest reply under the draws
+-- reply t after the answer, if the ask is the one that stands there: the honest reply under the draws (challenges)
 abbrev pub reply_at : OrderedCircuit → ℕ → List ℕ → Bool → Move
 reply_at c t draws stands =
     cond (t == length (turns c.nodes (length c.order))) NothingLeft

@@ -8,7 +8,7 @@ use Rattle.blic_prover.specs.declared.step.Given.TheVariants as given
 use Rattle.blic_prover.specs.declared.step.Step.{Step}
 use Rattle.blic_prover.specs.declared.step.Step.TheVariants as answers
 
--- what a reply says, where the prover keeps these polynomials
+-- what a reply says, given the polynomials that the prover keeps
 abbrev pub said_by : List Quadratic → Given → Said
 said_by ps (given.Answer b) = Answer b
 said_by ps given.Polys = Polys ps

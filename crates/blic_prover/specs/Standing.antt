@@ -96,7 +96,7 @@ ServesAt p Over Ended = Unit {0}
 abbrev pub ServesFor : Proving → List Ask → Type 0
 ServesFor p asks = ServesAt p p.stage (progress p.circuit p.served asks)
 
--- how many products of elements the next reply takes at most, where a claim on each node takes `most`
+-- how many products of elements the next reply takes at most, if a claim on each node takes `most`
 abbrev pub products_at : OrderedCircuit → (ℕ → ℕ) → Stage → ℕ
 products_at c most Fresh = 0
 products_at c most (Going k) = claims c.nodes k * most k
@@ -104,7 +104,7 @@ products_at c most (Drawing k i) = claims c.nodes k * most k
 products_at c most Finished = 0
 products_at c most Over = 0
 
--- where a draw stands next, answers of which `goes_on` tells may go on by the points with that draw
+-- if a draw stands next, answers of which `goes_on` tells may go on by the points with that draw
 abbrev pub GoesOnAt : (PointTable → ℕ → ℕ → Type 0) → PointTable → Stage → Type 0
 GoesOnAt goes_on points Fresh = Unit {0}
 GoesOnAt goes_on points (Going k) = Unit {0}

@@ -85,7 +85,7 @@ impl<'c> Prover<'c> {
         })
     }
 
-    /// Answers an ask: by the honest reply where the ask stands next, else by why there is none; then
+    /// Answers an ask: by the honest reply if the ask stands next, else by why there is none; then
     /// the prover stays as it was, but for a session's end. It takes the products of one call of
     /// `answers` at most.
     pub fn step<A: Answers, L: Ledger>(
@@ -117,7 +117,7 @@ impl<'c> Prover<'c> {
         }
     }
 
-    /// The reply that was given last.
+    /// The reply that a step answered as `given`, with the polynomials that were given last.
     pub fn shown(&self, given: Given) -> Reply<'_>
         ensures { said result ≡ said_by self.now.kept given }
     {

@@ -10,7 +10,7 @@ use blic_claims::{Answers, Points};
 use blic_poly2::Poly2;
 use std::sync::ledger::Ledger;
 
-/// Fills the front of the room with the polynomial of each claim on a binary node in its free level `j`.
+/// Fills the start of the room with the polynomial of each claim on a binary node in its free level `j`.
 pub(crate) fn fill<A: Answers, L: Ledger>(
     room: &mut [Poly2],
     count: usize,

@@ -7,17 +7,17 @@ use blic_messages::Hello;
 pub enum Step {
     /// The honest reply, which `Prover::shown` shows until the next ask.
     Reply(Given),
-    /// The ask doesn't stand there.
+    /// The ask is not the one that stands next.
     OutOfTurn,
     /// Every reply of the conversation was given.
     NothingLeft,
-    /// Something else is served than what was asked for.
+    /// What is served is not what was asked for.
     NotServed { served: Hello, asked: Hello },
     /// The session is over.
     Ended,
 }
 
-/// A reply, whose polynomials the prover keeps.
+/// A reply: an answer, polynomials, which the prover keeps, or the values of a node's two operands.
 #[derive(Clone, Copy, Debug, PartialEq, Eq, Drop)]
 pub enum Given {
     Answer(bool),

@@ -1,4 +1,4 @@
--- Solved circuits: a ref for each node, the pairs of each binary one, and which limit is passed first.
+-- Solved circuits: a ref for each node, the pairs of each binary one (the product of its operands), and which limit is passed first.
 use Rattle.std.specs.Prelude.{ℕ, ◌+◌, ◌<◌, ◌≤◌, ◌≡◌, List, length, Option, Some, None, IsSomeAnd, slice_index_or}
 use Rattle.blic_model.specs.declared.node.Node.{Node}
 use Rattle.blic_model.specs.declared.node.Node.TheVariants.{Const, Var, Not, Fix, And, Or}
@@ -40,13 +40,13 @@ HasGraph plan k (Fix x b a) = graph_of plan k ≡ None
 HasGraph plan k (And a b) = IsSomeAnd (graph_of plan k) (IsGraph plan.store.nodes (root_of plan a) (root_of plan b))
 HasGraph plan k (Or a b) = IsSomeAnd (graph_of plan k) (IsGraph plan.store.nodes (root_of plan a) (root_of plan b))
 
--- g is a part of the function of one of the first n nodes
+-- g is a part (cofactor) of the function of one of the first n nodes
 pub record IsPartBefore (nodes : List Node) (n : ℕ) (g : Function) : Type 0 where
   pub node : ℕ
   pub before : node < n
   pub part : IsPart (holds nodes node) g
 
--- each decision stands for such a part
+-- each decision (node of a BDD) stands for such a part
 abbrev pub HasParts : List Node → ℕ → List Decision → Type 0
 HasParts nodes n decisions = (r : ℕ) → 2 ≤ r → IsRef decisions r → IsPartBefore nodes n (function decisions r)
 
@@ -75,14 +75,14 @@ pub record IsPairLimit (nodes : List Node) (levels most_nodes most_pairs k : ℕ
   pub before : (j : ℕ) → j < k → IsWithin nodes levels most_nodes most_pairs j
   pub passed : most_pairs < pairs nodes levels k
 
--- node k is the first that passes a limit, and it passes that of nodes alone
+-- node k is the first that passes a limit, and it passes that of decisions alone
 pub record IsNodeLimit (nodes : List Node) (levels most_nodes most_pairs k : ℕ) : Type 0 where
   pub in_range : k < length nodes
   pub before : (j : ℕ) → j < k → IsWithin nodes levels most_nodes most_pairs j
   pub few_pairs : pairs nodes levels k ≤ most_pairs
   pub passed : most_nodes < size nodes levels k
 
--- the cause of each refusal; want of memory alone is free
+-- the cause of each refusal; only out of memory has none
 abbrev pub IsCause : List Node → ℕ → ℕ → ℕ → SolveError → Type 0
 IsCause nodes levels most_nodes most_pairs (PairLimit k) = IsPairLimit nodes levels most_nodes most_pairs k
 IsCause nodes levels most_nodes most_pairs (NodeLimit k) = IsNodeLimit nodes levels most_nodes most_pairs k

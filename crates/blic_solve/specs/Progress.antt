@@ -20,7 +20,7 @@ pub record IsSolvedUpTo (nodes : List Node) (levels most_nodes most_pairs n : �
   pub few : listed ≤ most_pairs
   pub within : (k : ℕ) → k < n → IsWithin nodes levels most_nodes most_pairs k
 
--- what is kept where no graph is: the store, the ref of each node, how many pairs were listed, and how many may be
+-- what is kept if no graph is: the store, the ref of each node, how many pairs were listed, and how many may be
 pub record Rooted : Type 0 where
   pub store : Diagrams
   pub roots : List ℕ

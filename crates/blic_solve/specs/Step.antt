@@ -15,7 +15,7 @@ use Rattle.blic_solve.specs.Plan.{pair_count}
 abbrev pub function_of : List Decision → List ℕ → Node → Function
 function_of decisions roots node p = holds_step 0 node (λ child. function decisions (slice_index_or roots child 0)) p
 
--- the graph lists the pairs of a binary node's operands, and there is none where it isn't binary
+-- the graph lists the pairs of a binary node's operands, and there is none if it isn't binary
 abbrev pub IsGraphOf : List Decision → List ℕ → Node → Option (List Pair) → Type 0
 IsGraphOf decisions roots (Const b) graph = graph ≡ None
 IsGraphOf decisions roots (Var x) graph = graph ≡ None

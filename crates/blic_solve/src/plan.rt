@@ -23,7 +23,7 @@ pub enum SolveError {
     /// The first node at which a limit is passed passes that of pairs.
     #[error("node {node} passes the limit of pairs")]
     PairLimit { node: u32 },
-    /// The first node at which a limit is passed passes that of nodes alone.
+    /// The first node at which a limit is passed passes that of decisions alone.
     #[error("node {node} passes the limit of decisions")]
     NodeLimit { node: u32 },
     /// Memory ran out.
@@ -31,8 +31,8 @@ pub enum SolveError {
     NoMem,
 }
 
-/// A solved circuit: a store of decision diagrams with the function of each node, and the pairs of
-/// the operands of each binary one.
+/// A solved circuit: a store of decision diagrams (BDDs) with the function of each node, and the pairs
+/// of the operands of each binary one (their product).
 #[derive(Drop)]
 pub struct Plan {
     store: Store,
@@ -53,12 +53,12 @@ impl Model for Plan {
 
 impl Plan {
     /// Solves the circuit: each node's function in one canonical store, which has at most `nodes`
-    /// decisions, and the pairs of each binary node's operands, at most `pairs` together. The time is
-    /// that of listing the pairs and of the decisions of each node.
+    /// decisions (nodes of BDDs), and the pairs of each binary node's operands, at most `pairs`
+    /// together. The time is that of listing the pairs and of the decisions of each node.
     ///
-    /// Refuses exactly where the nodes up to one have more subfunctions or more pairs of them than
-    /// is allowed, and names the first such node; where it passes both limits, that of pairs is told.
-    /// Only want of memory is free. A refusal leaves nothing.
+    /// Refuses exactly if the nodes up to some node have more subfunctions (cofactors) or more pairs of
+    /// them than is allowed, and names the first such node; if it passes both limits, that of pairs is
+    /// reported. Only out of memory comes without such a cause. A refusal leaves nothing.
     pub fn solve(
         alloc: Global,
         circuit: &Circuit,
@@ -101,8 +101,8 @@ impl Plan {
         self.roots[node as usize]
     }
 
-    /// The pairs of a node's operands, in rising order of level: `None` exactly where the node isn't
-    /// binary, and an empty graph where it is and has no pairs.
+    /// The pairs of a node's operands, in rising order of level: `None` exactly if the node isn't
+    /// binary, and an empty graph if it is and has no pairs.
     pub fn graph(&self, node: u32) -> Option<&Graph>
         requires { node < length self.now.roots }
         ensures graph { option_map (λ g. g.now) result ≡ graph_of self.now node }
@@ -114,7 +114,7 @@ impl Plan {
         }
     }
 
-    /// The greatest number of pairs that a node's operands have.
+    /// The greatest number of pairs that a node's operands have, 0 if no node has any.
     pub fn largest_graph(&self) -> u32
         ensures most { (k : ℕ) → pair_count (graph_of self.now k) ≤ result }
         ensures reached { (k : ℕ) × (pair_count (graph_of self.now k) ≡ result) }
@@ -138,7 +138,7 @@ impl Plan {
         n > 0 && self.roots[n - 1] == Ref::TRUE
     }
 
-    /// Where a shaped circuit is solved, each decision's level is one of the circuit's.
+    /// A law: if a shaped circuit is solved, each decision's level is one of the circuit's.
     pub fn levels_law(&self)
         ensures { (c : OrderedCircuit) → IsShaped c.nodes (length c.order) → IsPlan c.nodes (length c.order) self.now
             → (k : ℕ) → k < length self.now.store.nodes → (decision_at self.now.store.nodes k).level < length c.order }
@@ -157,7 +157,7 @@ impl Plan {
         })
     }
 
-    // Solves node k, the next one, where `listed` pairs of `pairs` are listed, and tells how many are then.
+    // Solves node k, the next one, after `listed` pairs of `pairs` were listed, and tells how many are then.
     fn add(
         &mut self,
         tools: &mut Tools,

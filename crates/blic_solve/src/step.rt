@@ -35,7 +35,7 @@ pub struct Tools {
 }
 
 impl Tools {
-    /// Tools.
+    /// Tools that were not used yet.
     pub fn new(alloc: Global) -> Result<Tools, NoMem> {
         match Lister::new(alloc) {
             Ok(lister) => Ok(Tools {
@@ -55,7 +55,7 @@ impl Tools {
     }
 }
 
-/// What a node adds: the ref of its function and, where it is binary, the pairs of its operands.
+/// What a node adds: the ref of its function and, if it is binary, the pairs of its operands.
 #[derive(Drop)]
 pub struct Step {
     pub root: Ref,
@@ -63,7 +63,7 @@ pub struct Step {
 }
 
 impl Step {
-    /// Gives up memory that its graph has over.
+    /// Gives back the memory that its graph doesn't use.
     pub fn shrink(&mut self)
         ensures { self.new ≡ self.old }
     {

@@ -52,9 +52,9 @@ impl<'c> Conversation<'c> {
         })
     }
 
-    /// Holds a conversation from its first ask on, with the draws of the seed from draw `first` on, of at most 2^61, and with what
-    /// `answers` knows of the circuit. Each frame is shown to `watch`, and the verifier judges each reply as `watch` left it. Answers how
-    /// the conversation ended, and none where a line could not be printed. Its products are not counted.
+    /// Holds a conversation from its first ask on, with the draws (challenges) of the seed from draw `first` on, which is at most 2^61,
+    /// and with what `answers` knows of the circuit. Each frame is shown to `watch`, and the verifier judges each reply as `watch` left
+    /// it. Answers how the conversation ended, and `None` if a line could not be printed. Its products are not counted.
     pub fn run<A: Answers, W: Watch, O: Sink>(
         &mut self,
         answers: &mut A,

@@ -21,7 +21,7 @@ use std::sync::ledger::Ledger;
 /// The length of the longest ask's frame.
 pub(crate) const LONGEST_ASK: usize = 43;
 
-/// Shows an ask's frame to the watch. It stands at the front of the buffer, and its length is answered.
+/// Shows an ask's frame to the watch. It stands at the start of the buffer, and its length is answered.
 pub(crate) fn show_ask<W: Watch>(ask: &Ask, frame: &mut [u8], watch: &mut W) -> usize
     requires { 43 ≤ length frame.old }
     ensures length { result ≤ length frame.new }
@@ -35,7 +35,7 @@ pub(crate) fn show_ask<W: Watch>(ask: &Ask, frame: &mut [u8], watch: &mut W) -> 
     len
 }
 
-/// Shows the frame at the front of the buffer to the watch, which leaves it there.
+/// Shows the frame at the start of the buffer to the watch, which leaves it there.
 pub(crate) fn show<W: Watch>(frame: &mut [u8], len: usize, watch: &mut W)
     requires { (5 ≤ len) × (len ≤ length frame.old) }
     ensures length { length frame.new ≡ length frame.old }
@@ -64,7 +64,7 @@ fn digest_len(hello: &Hello) -> usize
     digest.len()
 }
 
-/// Puts the frame of the prover's reply at the front of the buffer. Answers its length.
+/// Puts the frame of the prover's reply at the start of the buffer. Answers its length.
 pub(crate) fn reply<A: Answers, L: Ledger>(
     prover: &mut Prover<'_>,
     circuit: &Circuit,

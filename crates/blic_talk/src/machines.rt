@@ -133,7 +133,7 @@ impl<'c> Machines<'c> {
         None
     }
 
-    // An ask and its reply, which the verifier judges as it came. `None` where a line could not be printed.
+    // An ask and its reply, which the verifier judges as it came. `None` if a line could not be printed.
     fn turn<A: Answers, W: Watch, O: Sink, L: Ledger>(
         &mut self,
         ask: &Ask,
@@ -169,7 +169,7 @@ impl<'c> Machines<'c> {
         }
     }
 
-    // Shows the prover's reply to the watch, which leaves it at the front of the buffer. Answers its length.
+    // Shows the prover's reply to the watch, which leaves it at the start of the buffer. Answers its length.
     fn show_reply<A: Answers, W: Watch, L: Ledger>(
         &mut self,
         ask: &Ask,
@@ -205,7 +205,7 @@ impl<'c> Machines<'c> {
         len
     }
 
-    // Prints the line of an ask's frame, and that of the reply at the front of the buffer if it is a frame.
+    // Prints the line of an ask's frame, and that of the reply at the start of the buffer if it is a frame.
     fn print<O: Sink>(
         &self,
         asked: &[u8],

@@ -17,7 +17,7 @@ use Rattle.blic_top.specs.declared.outcome.End.TheVariants.{Certified, Exercised
 abbrev pub job_by : Problem → CertifyOptions → Job
 job_by p o = certify_job (Made p) (limits_of o.options) o.options.seed o.first o.options.talk
 
--- of a job: an outcome that may come, with the lines before it printed; or a call on the output failed in the midst of its work
+-- of a job: an outcome that may come, with the lines before it printed; or a call on the output failed during its work
 abbrev pub Decides : Job → Told → Deed → Option (List ℕ) → Option (List ℕ) → Option Outcome → Type 0
 Decides job told deed old new (Some outcome) = Says job told deed outcome × (new ≡ append_known old deed.lines)
 Decides job told deed old new None = (piece : List ℕ) × IsPrinting job told deed piece × IsCutOff deed piece old new

@@ -59,7 +59,7 @@ talk_lines talk e deed = cond talk (talk_text (spoken e deed.frames)) []
 abbrev pub IsFailed : Problem → Option (List ℕ) → ℕ → Bool → Deed → Failure → Type 0
 IsFailed p given first alters deed failure = Converses p given first alters deed (ending_of failure) × (alters ≡ true)
 
--- how a job of this kind may end, once all was had that comes before
+-- how a job of this kind may end, once all was obtained that comes before
 abbrev pub Ends : Kind → Problem → Bool → Deed → End → Type 0
 Ends Solving p alters deed (Solved a) = IsAnswer p p.truth a × (deed ≡ nothing)
 Ends (Certifying given first talk) p alters deed (Certified a n) = IsCertified p given first alters deed a n × (deed.lines ≡ talk_lines talk (CertifiedEnd a.truth) deed)

@@ -40,7 +40,7 @@ IsPrintingIn (job ∷ next ∷ jobs) told deed piece =
     ⊎ ((first : Outcome) × (goes_on first ≡ true) × Says job told deed first × (piece ≡ text_of first))
     ⊎ ((late : Deed) × IsBegun job told deed late × IsPrintingIn (next ∷ jobs) told late piece)
 
--- what may be said of a request, or of words that don't fit
+-- what may be said of a request, or of arguments that don't fit
 abbrev pub Means : Option Request → Told → Deed → Outcome → Type 0
 Means (Some r) told deed outcome = SaysAll (first_job r ∷ later_jobs r) told deed outcome
 Means None told deed Usage = deed ≡ nothing

@@ -30,7 +30,7 @@ pub(crate) struct CertifyOptions {
     pub(crate) first: u64,
 }
 
-/// Certifies the problem, if it can be solved within the limits. `None` where a line of the conversation could not be printed.
+/// Certifies the problem, if it can be solved within the limits. `None` if a line of the conversation could not be printed.
 pub(crate) fn certify_problem<E: Entropy, W: Watch, O: Sink>(
     alloc: Global,
     problem: &Problem,

@@ -20,7 +20,7 @@ use blic_words::Options;
 use std::alloc::Global;
 
 /// Certifies a true formula and then a false one. The line of the first is printed before the second is made. `None`
-/// where it could not be printed.
+/// if it could not be printed.
 pub(crate) fn exercise<E: Entropy, W: Watch, O: Sink>(
     alloc: Global,
     pairs: u32,

@@ -54,11 +54,11 @@ pub enum End {
 /// How a command ended.
 #[derive(Clone, Copy, Debug, PartialEq, Eq)]
 pub enum Outcome {
-    /// The words don't fit.
+    /// The arguments don't fit.
     Usage,
     /// Memory ran out.
     NoMemory,
-    /// Something could not be had.
+    /// Something could not be obtained.
     Stopped(Stop),
     /// The work ended.
     Done(End),
@@ -77,7 +77,7 @@ impl Outcome {
         }
     }
 
-    /// Prints the whole text, without memory.
+    /// Prints the whole text, and takes no memory.
     pub(crate) fn print<O: Sink>(self, out: &mut O) -> Result<(), WriteFault>
         ensures bytes { Prints (O.held out.old) (O.held out.new) result (text_of self) }
         ensures cause { PrintCounts (O.faults out.old) (O.faults out.new) result }

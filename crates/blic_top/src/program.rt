@@ -21,35 +21,35 @@ use blic_print::WriteFault;
 use blic_words::{Options, Request, parse};
 use std::alloc::Global;
 
-/// Does all that the program does with its words, which are without its name. Answers the exit
-/// status. Every line goes to `out`.
+/// Does all that the program does with its arguments, the words, which are without its name. Answers
+/// the exit status. Every line goes to `out`.
 ///
 /// `solve FILE` reads the formula of a QDIMACS file and prints its truth, as
 /// `s cnf 1 V C` with status 10 or `s cnf 0 V C` with status 20. `--nodes N` and `--pairs P` say
-/// how many decisions and pairs solving may take: N from 1 to 2^24, by default 2^22, and P from 1
-/// to 2^25, by default 2^24.
+/// how many decisions (nodes of BDDs) and pairs (the product construction) solving may take: N from
+/// 1 to 2^24, by default 2^22, and P from 1 to 2^25, by default 2^24.
 ///
 /// `certify FILE` solves the formula within the same limits, and has a prover, who answers by what was
 /// solved, and a verifier hold a conversation about the formula's circuit. Each frame is shown to `watch`, and
-/// the verifier judges each reply as `watch` left it. Where it accepts, the answer line is printed with the statuses of `solve`,
-/// and then `runs 1`, `draws D` and `bad B`. The draws are those of the seed that `--seed` gives as 64 hexadecimal digits, or of
-/// the next one of `entropy`. With `--talk` a line for each frame comes first.
+/// the verifier judges each reply as `watch` left it. If it accepts, the answer line is printed with the statuses of `solve`,
+/// and then `runs 1`, `draws D` and `bad B`. The draws (challenges) are those of the seed that `--seed` gives as 64 hexadecimal
+/// digits, or of the next one of `entropy`. With `--talk` a line for each frame comes first: the transcript.
 ///
 /// `exercise N` certifies two formulas of `N` pairs of variables, from 1 to 500, as `certify` does within the
-/// usual limits: `xor_chain` of `blic_gen`, the true one and then the false one. It prints a line for each as soon as it is
-/// certified, `true vars V clauses C draws D bad B` or the same with `false`, by the certified answer. The seed is one of 32 zeros where
+/// default limits: `xor_chain` of `blic_gen`, the true one and then the false one. It prints a line for each as soon as it is
+/// certified, `true vars V clauses C draws D bad B` or the same with `false`, by the certified answer. The seed is one of 32 zeros if
 /// `--seed` gives none, and the draws go on from the first conversation to the second.
 ///
 /// | status | if |
 /// |---|---|
 /// | 0 | `exercise` printed both lines |
-/// | 1 | the words don't fit |
+/// | 1 | the arguments don't fit |
 /// | 2 | the file spells no formula within the limits |
 /// | 3 | a call on the files or on the opened file failed |
 /// | 4 | a call on `out` failed; it holds a prefix of what was to be printed |
 /// | 6 | the verifier refused a reply that `watch` had altered |
 /// | 8 | the formula's circuit passes a limit of circuits, or else one of solving |
-/// | 9 | memory ran out |
+/// | 9 | out of memory |
 /// | 11 | `entropy` failed |
 /// | 13 | `watch` left a reply that is no frame |
 pub fn run<F: Files, E: Entropy, W: Watch, O: Sink>(
@@ -77,7 +77,7 @@ pub fn run<F: Files, E: Entropy, W: Watch, O: Sink>(
     ensures passes_no_entropy_fault { result ≢ 11 → result ≢ 4 → E.faults entropy.new ≡ E.faults entropy.old }
     ensures passes_no_write_fault { result ≢ 4 → O.faults out.new ≡ O.faults out.old }
 
-    // If nothing failed, the status follows from the words and the file.
+    // If nothing failed, the status follows from the arguments and the file.
     ensures usage { ¬ (Rose (O.faults out.old) (O.faults out.new)) → request_of (map string_bytes words.now.items) ≡ None → IsOrNoMemory result 1 }
     ensures solves { ¬ (Rose (F.faults files.old) (F.faults files.new)) → ¬ (Rose (O.faults out.old) (O.faults out.new))
         → Solves (request_of (map string_bytes words.now.items)) (record { files = F.files files.old; alters = W.alters watch.old }) result }
@@ -123,7 +123,7 @@ fn perform<F: Files, E: Entropy, W: Watch, O: Sink>(
     }
 }
 
-// What there is to say, once the lines that come before it are printed. `None` where one could not be printed.
+// What there is to say, once the lines that come before it are printed. `None` if one could not be printed.
 fn decide<F: Files, E: Entropy, W: Watch, O: Sink>(
     alloc: Global,
     words: &[String],

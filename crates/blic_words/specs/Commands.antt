@@ -1,4 +1,4 @@
--- The commands, and which words they take.
+-- The commands, and which arguments (words) they take.
 use Rattle.std.specs.Prelude.{Bool, true, false, if◌then◌else◌, List, [], ◌∷◌, fold, codes, map, Option, Some, None}
 use Rattle.std.specs.Option.{option_zip}
 use Rattle.clap.specs.Words.{App, Rule, Text, Kinds, new_app, new_rule, with_rule, fault_of, first_of, matches_of}
@@ -6,7 +6,7 @@ use Rattle.clap.specs.declared.builder.ArgAction.TheVariants.{Set, SetTrue}
 use Rattle.blic_words.specs.declared.options.Options.{Options}
 use Rattle.blic_words.specs.Options.{options_of}
 
--- a command: its name, the name of the one word that has to stand there, its options with one value each, and its flags
+-- a command: its name, the name of its operand, its options with one value each, and its flags
 pub record Form : Type 0 where
   pub name : Text
   pub operand : Text
@@ -25,7 +25,7 @@ certify = record { name = codes "certify"; operand = codes "FILE"; options = cod
 abbrev pub exercise : Form
 exercise = record { name = codes "exercise"; operand = codes "N"; options = codes "seed" ∷ []; flags = [] }
 
--- one word that has to stand there
+-- the operand, an argument that has to be given
 abbrev pub required_word : Text → Rule
 required_word id = record (new_rule id) { required = true; action = Some Set }
 
@@ -46,7 +46,7 @@ abbrev pub is_free_of_faults : Kinds → Bool
 is_free_of_faults [] = true
 is_free_of_faults (kind ∷ kinds) = false
 
--- the operand and the options, where the command takes the words and the options' values are in their ranges
+-- the operand and the options, if the command takes the arguments and the options' values are in their ranges
 unfoldable pub given_of : App → Text → List Text → Option (Text × Options)
 given_of app operand words =
     let rows = matches_of app words in

@@ -1,4 +1,4 @@
--- The options of the commands: their ranges, and what stands for one that isn't given.
+-- The options of the commands: their ranges and their defaults.
 use Rattle.std.specs.Prelude.{ℕ, ◌+◌, ◌*◌, ◌-◌, Bool, false, ◌&&◌, nat_le, if◌then◌else◌, List, length, fold, codes, bytes_eq, Option, Some, None, option_map, Result, Ok, Err}
 use Rattle.std.specs.List.{list_all}
 use Rattle.clap.specs.Words.{Row, Text, first_of}
@@ -6,7 +6,7 @@ use Rattle.hex.specs.Hex.{decode_sized}
 use Rattle.hex.specs.declared.error.FromHexError.{FromHexError}
 use Rattle.blic_words.specs.declared.options.Options.{Options}
 
--- what stands where no option is given
+-- the defaults: what holds if no option is given
 abbrev pub usual : Options
 usual = record { nodes = 4194304; pairs = 16777216; seed = None; talk = false }
 
@@ -23,7 +23,7 @@ number_in low high text =
     if nat_le 1 (length text) && nat_le (length text) 10 && list_all is_digit text && nat_le low (value_of_digits text) && nat_le (value_of_digits text) high
     then Some (value_of_digits text) else None
 
--- an option's number, or its default where the option isn't given
+-- an option's number, or its default if the option isn't given
 abbrev pub number_or : ℕ → ℕ → ℕ → Option Text → Option ℕ
 number_or default low high None = Some default
 number_or default low high (Some text) = number_in low high text
@@ -37,12 +37,12 @@ decoded (Err error) = None
 abbrev pub seed_in : List ℕ → Option (List ℕ)
 seed_in text = decoded (decode_sized text 32)
 
--- an option's seed, or its default where the option isn't given
+-- an option's seed, or its default if the option isn't given
 abbrev pub seed_or : Option (List ℕ) → Option Text → Option (Option (List ℕ))
 seed_or default None = Some default
 seed_or default (Some text) = option_map Some (seed_in text)
 
--- whether a flag is given; its default where a command doesn't take it
+-- whether a flag is given; its default if a command doesn't take it
 abbrev pub is_set : Bool → Option Text → Bool
 is_set default None = default
 is_set default (Some text) = bytes_eq text (codes "true")

@@ -1,4 +1,4 @@
--- What the words of the command line ask for.
+-- What the arguments (words) of the command line ask for.
 use Rattle.std.specs.Prelude.{ℕ, ◌≤◌, ◌==◌, Bool, false, if◌then◌else◌, List, [], ◌∷◌, codes, bytes_eq, Option, Some, None, option_map, option_and_then}
 use Rattle.clap.specs.Words.{Text}
 use Rattle.blic_words.specs.declared.options.Options.{Options}
@@ -29,11 +29,11 @@ certify_asked given = Some (Certify given.0 given.1)
 abbrev pub exercise_asked : Text × Options → Option Request
 exercise_asked given = option_map (λ n. Exercise n given.1) (number_in 1 500 given.0)
 
--- what the words of a command ask for
+-- what the arguments of a command ask for
 abbrev pub asked : Form → (Text × Options → Option Request) → List Text → Option Request
 asked form ask words = option_and_then ask (given_of (app_of_form form) form.operand words)
 
--- the first word names the command; no other words fit
+-- the first argument names the command; no other arguments fit
 abbrev pub request_of : List Text → Option Request
 request_of [] = None
 request_of (name ∷ words) =

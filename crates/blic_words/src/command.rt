@@ -28,7 +28,7 @@ pub(crate) fn command<'a>(
     Ok(command)
 }
 
-/// The operand and the options that the words give, where the command takes them.
+/// The operand and the options that the arguments give, if the command takes them.
 pub(crate) fn given<'w>(
     command: Command<'w>,
     operand: &str,
@@ -43,7 +43,7 @@ pub(crate) fn given<'w>(
     Ok(text_of(&matches, operand).zip(Options::read(&matches)))
 }
 
-// What the words give, where the command takes them.
+// What the arguments give, if the command takes them.
 fn taken<'a>(
     command: Command<'a>,
     words: &'a [String],
@@ -61,7 +61,7 @@ fn taken<'a>(
     }
 }
 
-// One word that has to stand there.
+// The operand, an argument that has to be given.
 fn required<'a>(alloc: Global, name: &'a str) -> Arg<'a>
     ensures rule { rule_of result ≡ required_word name.entry.now }
     ensures local { result.global ≡ false }

@@ -1,10 +1,10 @@
-// What plain words ask for.
+// What arguments without options ask for.
 ghost use Rattle.std.specs.Prelude.{◌≡◌, ◌≤◌, ℕ, List, [], ◌∷◌, Some, codes, decimal, false};
 ghost use Rattle.clap.specs.Words.{Text};
 ghost use Rattle.blic_words.specs.Options.{number_in as number_of, usual as usual_options};
 ghost use Rattle.blic_words.specs.Requests.{Solve, Certify, Exercise, begins_with_hyphen, request_of};
 
-/// Words without options ask for the usual ones.
+/// Arguments without options ask for the defaults.
 pub fn words_law()
     ensures solve { (file : Text) → begins_with_hyphen file ≡ false → request_of (codes "solve" ∷ file ∷ []) ≡ Some (Solve file usual_options) }
     ensures certify { (file : Text) → begins_with_hyphen file ≡ false → request_of (codes "certify" ∷ file ∷ []) ≡ Some (Certify file usual_options) }

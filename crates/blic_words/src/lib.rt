@@ -1,4 +1,4 @@
-//! The words of the command line: which fit, and what they ask for.
+//! The arguments of the command line (words): which fit, and what they ask for.
 #![tactic(auto)]
 
 mod command;

@@ -1,9 +1,9 @@
-// Numbers in words.
+// Numbers in arguments.
 ghost use Rattle.std.specs.Prelude.{◌≡◌};
 ghost use Rattle.std.specs.List.{list_all};
 ghost use Rattle.blic_words.specs.Options.{is_digit, number_in as number_of};
 
-/// The number that one to ten digits write, where it is in the range.
+/// The number that one to ten decimal digits write, if it is from `low` to `high`.
 pub(crate) fn number_in(low: u32, high: u32, text: &str) -> Option<u32>
     ensures { result ≡ number_of low high text.now }
 {

@@ -15,18 +15,18 @@ const MOST_PAIRS: u32 = 33_554_432;
 /// What the options of a command say. A command without an option has its default.
 #[derive(Clone, Copy, Debug, PartialEq, Eq)]
 pub struct Options {
-    /// `--nodes`: how many decisions solving may store, from 1 to 16,777,216.
+    /// `--nodes`: how many decisions (nodes of BDDs) solving may store, from 1 to 16,777,216.
     pub nodes: u32,
-    /// `--pairs`: how many pairs solving may take over all binary nodes, from 1 to 33,554,432.
+    /// `--pairs`: how many pairs (the product construction) solving may take over all binary nodes, from 1 to 33,554,432.
     pub pairs: u32,
-    /// `--seed`: the seed of the draws; none where it isn't given.
+    /// `--seed`: the seed of the draws (challenges); `None` if it isn't given.
     pub seed: Option<[u8; 32]>,
     /// `--talk`: whether the frames of a conversation are printed.
     pub talk: bool,
 }
 
 impl Options {
-    /// What stands where no option is given.
+    /// The defaults: what holds if no option is given.
     pub fn usual() -> Options
         ensures { result ≡ usual_options }
     {
@@ -38,8 +38,8 @@ impl Options {
         }
     }
 
-    /// The options that were given, and the usual ones in place of the others. None where a text is no
-    /// number in its range or no seed.
+    /// The options that were given, and the defaults of the others. `None` if a text is no number in its
+    /// range or no seed.
     pub(crate) fn read(matches: &ArgMatches) -> Option<Options>
         ensures { result ≡ options_of (rows_of (found_of matches.now)) }
     {
@@ -60,7 +60,7 @@ pub(crate) fn text_of<'w>(matches: &ArgMatches<'w>, name: &str) -> Option<&'w st
     matches.get_str(name)
 }
 
-// The number of an option, or its default where it isn't given.
+// The number of an option, or its default if it isn't given.
 fn number_or(default: u32, low: u32, high: u32, text: Option<&str>) -> Option<u32>
     ensures { result ≡ number_given default low high (option_map (λ t. t.now) text.entry) }
 {
@@ -70,7 +70,7 @@ fn number_or(default: u32, low: u32, high: u32, text: Option<&str>) -> Option<u3
     }
 }
 
-// The seed of an option, or its default where it isn't given.
+// The seed of an option, or its default if it isn't given.
 fn seed_or(default: Option<[u8; 32]>, text: Option<&str>) -> Option<Option<[u8; 32]>>
     ensures { result ≡ seed_given default (option_map (λ t. t.now) text.entry) }
 {

@@ -1,7 +1,7 @@
 // What a command is asked for.
 use crate::options::Options;
 
-/// What the words ask for. `'w` is the words' lifetime, which lend the file's name.
+/// What the arguments ask for. `'w` is the lifetime of the arguments, which lend the file's name.
 #[derive(Clone, Copy)]
 pub enum Request<'w> {
     /// Solve the formula of a file, within the options' limits.

@@ -1,4 +1,4 @@
-// Rows of words that fit and of words that don't.
+// Rows of arguments that fit and of arguments that don't.
 use crate::{Options, Request, parse};
 use std::alloc::{AllocError, Global};
 use std::process::Abort;
@@ -73,7 +73,7 @@ exercise 0001 --seed 00112233445566778899aabbccddeeff00112233445566778899aabbccd
     Ok(())
 }
 
-// Words that fit no command, a line each.
+// Arguments that fit no command, a line each.
 const MISFITS: &str = "
 verify f
 solve

@@ -1,4 +1,4 @@
-// From words to what they ask for.
+// From arguments to what they ask for.
 ghost use Rattle.std.specs.Prelude.{◌≡◌, IfOk, IfSome, map, option_map, string_bytes};
 ghost use Rattle.blic_words.specs.Commands.{solve as solve_form, certify as certify_form, exercise as exercise_form};
 ghost use Rattle.blic_words.specs.Requests.{IsInRange, asked, solve_asked, certify_asked, exercise_asked, request_by, request_of};
@@ -13,8 +13,8 @@ use std::alloc::{AllocError, Global};
 /// The greatest number of pairs of variables that `exercise` takes.
 const MOST_EXERCISE: u32 = 500;
 
-/// What the words ask for, none where they don't fit. The first word names the command. The only error
-/// is that memory ran out.
+/// What the arguments ask for, `None` if they don't fit. The first one names the command. The only error
+/// is out of memory.
 pub fn parse<'w>(alloc: Global, words: &'w [String]) -> Result<Option<Request<'w>>, NoMem>
     ensures exact { IfOk result (λ asked. option_map request_by asked ≡ request_of (map string_bytes words.entry.now)) }
     ensures ranges { IfOk result (λ asked. IfSome asked (λ request. IsInRange (request_by request))) }
@@ -22,7 +22,7 @@ pub fn parse<'w>(alloc: Global, words: &'w [String]) -> Result<Option<Request<'w
     Ok(read(alloc, words)?)
 }
 
-// What the words ask for, by the command that the first one names.
+// What the arguments ask for, by the command that the first one names.
 fn read<'w>(alloc: Global, words: &'w [String]) -> Result<Option<Request<'w>>, AllocError>
     ensures { IfOk result (λ request. option_map request_by request ≡ request_of (map string_bytes words.entry.now)) }
 {
