@@ -1,4 +1,4 @@
--- What is had for a task, or why it stops.
+-- What is obtained for a task, or why it stops.
 use Rattle.std.specs.Prelude.{◌≡◌, ℕ, Bool, List, Option, Some, None, Result, Ok, Err}
 use Rattle.blic_basic.specs.Seeding.{Seeds}
 use Rattle.blic_basic.specs.declared.entropy.Seeded.TheVariants as seeded

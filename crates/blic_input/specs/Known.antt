@@ -1,4 +1,4 @@
--- What is known of a task where its file is told: its problem, the file's first error, a limit that is passed.
+-- What is known of a task if its file is told: its problem, the file's first error, a limit that is passed.
 use Rattle.std.specs.Prelude.{◌≡◌, Option, Err, IsSomeAnd, ◌⊎◌}
 use Rattle.blic_model.specs.Formula.{PrenexFormula}
 use Rattle.blic_model.specs.declared.circuit.CircuitError.{CircuitError}
@@ -21,7 +21,7 @@ abbrev pub IsRefused : ToldFiles → Subject → ReadError → Type 0
 IsRefused files (OfFile name) error = IsSomeAnd files (λ file. IsSomeAnd (file name) (λ bytes. meaning bytes ≡ Err error))
 IsRefused files (Made q) error = ⊥
 
--- some refusal of a limit, which isn't want of memory, has its cause
+-- some refusal of a limit, which isn't out of memory, has its cause
 pub record PassesCircuit (p : Problem) : Type 0 where
   pub error : CircuitError
   pub status : circuit_status error ≡ 8

@@ -1,7 +1,8 @@
 -- The status and the text of each stop.
-use Rattle.std.specs.Prelude.{ℕ, List, [], ◌∷◌, ◌++◌, codes, decimal}
+use Rattle.std.specs.Prelude.{ℕ, List, ◌++◌, codes, decimal}
 use Rattle.blic_model.specs.declared.circuit.CircuitError.{CircuitError}
 use Rattle.blic_model.specs.declared.circuit.CircuitError.TheVariants as circuits
+pub use Rattle.blic_qdimacs.specs.Text.{line_end}
 use Rattle.blic_qdimacs.specs.declared.error.ReadError.{ReadError}
 use Rattle.blic_qdimacs.specs.declared.error.ReadError.TheVariants as errors
 use Rattle.blic_solve.specs.declared.plan.SolveError.{SolveError}
@@ -9,13 +10,13 @@ use Rattle.blic_solve.specs.declared.plan.SolveError.TheVariants as solving
 use Rattle.blic_input.specs.declared.stop.Stop.{Stop}
 use Rattle.blic_input.specs.declared.stop.Stop.TheVariants.{NotRead, NotBuilt, NotSolved, NoSeed}
 
--- 3 for a fault, 9 for want of memory, 2 for a refused file
+-- 3 for a fault, 9 for out of memory, 2 for a refused file
 abbrev pub read_status : ReadError → ℕ
 read_status errors.Fault = 3
 read_status errors.NoMem = 9
 read_status _ = 2
 
--- 9 for want of memory, 8 for a limit
+-- 9 for out of memory, 8 for a limit
 abbrev pub circuit_status : CircuitError → ℕ
 circuit_status circuits.NoMem = 9
 circuit_status _ = 8
@@ -29,10 +30,6 @@ stop_status (NotRead error) = read_status error
 stop_status (NotBuilt error) = circuit_status error
 stop_status (NotSolved error) = solving_status error
 stop_status NoSeed = 11
-
--- each line ends with LF
-abbrev pub line_end : List ℕ
-line_end = 10 ∷ []
 
 -- the name of the refusal and its line
 abbrev pub refused_at : List ℕ → ℕ → List ℕ

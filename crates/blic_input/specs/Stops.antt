@@ -54,11 +54,11 @@ abbrev pub IsSolvable : Problem → Option SolveLimits → Type 0
 IsSolvable p None = Unit {0}
 IsSolvable p (Some l) = (k : ℕ) → k < length p.circuit.nodes → IsWithin p.circuit.nodes (length p.circuit.order) l.nodes l.pairs k
 
--- all that comes before an answer can be had
+-- all that comes before an answer can be obtained
 abbrev pub CanStart : Problem → Task → Type 0
 CanStart p task = HasSmallCircuit p × IsSolvable p task.limits
 
--- why the task stops: the first that can't be had
+-- why the task stops: the first that can't be obtained
 abbrev pub Stops : ToldFiles → Task → Stop → Type 0
 Stops files task (NotRead error) = MayNotRead files task.subject error
 Stops files task (NotBuilt error) = (p : Problem) × IsSubject files task.subject p × IsBuildingCause p error

@@ -1,4 +1,4 @@
--- What has to be had before anything is answered.
+-- What has to be obtained before anything is answered.
 use Rattle.std.specs.Prelude.{ℕ, List, Option, Some, None}
 use Rattle.blic_input.specs.Problem.{Problem}
 use Rattle.blic_input.specs.declared.problem.SolveLimits.{SolveLimits}

@@ -1,4 +1,4 @@
-//! From a subject to its problem, or to the first thing that can't be had.
+//! From a file or a formula to its problem, or to the first thing that can't be obtained.
 #![tactic(auto)]
 
 mod file;

@@ -18,7 +18,8 @@ use blic_solve::answer;
 use std::alloc::Global;
 use std::marker::Model;
 
-/// How far solving may go: decisions in the store, from 1 to 2^24, and pairs over all binary nodes, from 1 to 2^25.
+/// How far solving may go: decisions (nodes of BDDs) in the store, from 1 to 2^24, and pairs (the product construction) over all
+/// binary nodes, from 1 to 2^25.
 #[derive(Clone, Copy, Debug, PartialEq, Eq)]
 pub struct SolveLimits {
     pub nodes: u32,
@@ -47,7 +48,7 @@ impl Model for Problem {
 }
 
 impl Problem {
-    /// The problem of a formula. It stops where the circuit passes a limit of circuits.
+    /// The problem of a formula. It stops if the circuit passes a limit of circuits, and if memory runs out.
     pub fn of_formula(alloc: Global, formula: Formula) -> Result<Problem, Stop>
         ensures says { Begins None (Made (problem_of formula)) result }
         ensures calm { fault_told result ≡ None }
@@ -59,8 +60,8 @@ impl Problem {
         }
     }
 
-    /// The problem of the formula that the file of this name spells in QDIMACS 1.1. It stops where the file can't be read or spells no
-    /// formula within the limits, and where the circuit passes a limit of circuits.
+    /// The problem of the formula that the file of this name spells in QDIMACS 1.1. It stops if the file can't be read or spells no
+    /// formula within the limits, if the circuit passes a limit of circuits, and if memory runs out.
     pub fn of_file<F: Files>(alloc: Global, name: &str, files: &mut F) -> Result<Problem, Stop>
         ensures says { Begins (F.files files.old) (OfFile name.now) result }
         ensures cause { Counts TheFiles (fault_told result) (F.faults files.old) (F.faults files.new) }
@@ -79,7 +80,7 @@ impl Problem {
         &self.circuit
     }
 
-    /// The Hello that names the circuit. It takes time and memory by the length of the formula.
+    /// The Hello that names the circuit. It takes time and memory that grow with the length of the formula.
     pub fn hello(&self, alloc: Global) -> Result<Hello, NoMem>
         ensures { IfOk result (λ hello. hello ≡ hello_by self.now) }
     {
@@ -105,7 +106,7 @@ impl Problem {
         self.formula.clause_count()
     }
 
-    /// Whether the formula is true. It stops exactly where solving passes a limit.
+    /// Whether the formula is true. It stops exactly if solving passes a limit; only out of memory comes without such a cause.
     pub fn solve(&self, alloc: Global, limits: SolveLimits) -> Result<bool, Stop>
         ensures { IsSolvedAs self.now limits result }
     {
@@ -119,7 +120,7 @@ impl Problem {
         }
     }
 
-    /// The value of the circuit's root is the formula's truth, at every point, and the circuit is within its limits.
+    /// A law: the value of the circuit's root is the formula's truth, at every point, and the circuit is within its limits.
     pub fn truth_law(&self)
         ensures root { RootIs self.now.circuit self.now.truth }
         ensures small { HasSmallCircuit self.now }

@@ -5,7 +5,7 @@ ghost use Rattle.blic_input.specs.Faults.{Counts, Entropy as TheEntropy, fault_t
 use crate::stop::Stop;
 use blic_basic::{Entropy, Seeded};
 
-/// The seed that is given, or else the next one that comes. It stops where one is asked for and none comes.
+/// The seed that is given, or else the next one that comes. It stops if one is asked for and none comes.
 pub fn seed_of<E: Entropy>(given: Option<[u8; 32]>, entropy: &mut E) -> Result<[u8; 32], Stop>
     ensures seed { IsSeeded given (E.seeds entropy.old) (E.seeds entropy.new) result }
     ensures cause { Counts TheEntropy (fault_told result) (E.faults entropy.old) (E.faults entropy.new) }

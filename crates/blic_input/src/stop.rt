@@ -10,7 +10,7 @@ use blic_qdimacs::ReadError;
 use blic_solve::SolveError;
 use thiserror::Error;
 
-/// Why nothing is answered: the first thing that could not be had.
+/// Why nothing is answered: the first thing that could not be obtained.
 #[derive(Clone, Copy, Debug, PartialEq, Eq, Error)]
 pub enum Stop {
     /// The file holds no formula, or could not be read.
@@ -22,13 +22,14 @@ pub enum Stop {
     /// The circuit passes a limit of solving.
     #[error("the formula was not solved: {0}")]
     NotSolved(SolveError),
-    /// No seed could be had.
+    /// No seed could be obtained.
     #[error("no seed could be had")]
     NoSeed,
 }
 
 impl Stop {
-    /// The exit status of a program that stops so.
+    /// The exit status of a program that stops so: 2 for a file that is refused, 3 for one that can't be read, 8 for a limit, 9 for out
+    /// of memory, 11 if no seed comes.
     pub fn status(self) -> u8
         ensures { result ≡ stop_status self }
     {
@@ -40,7 +41,7 @@ impl Stop {
         }
     }
 
-    /// Prints the line that says why, without memory.
+    /// Prints the line that says why, and takes no memory.
     pub fn print<O: Sink>(self, out: &mut O) -> Result<(), WriteFault>
         ensures bytes { Prints (O.held out.old) (O.held out.new) result (stop_text self) }
         ensures cause { PrintCounts (O.faults out.old) (O.faults out.new) result }
@@ -54,7 +55,7 @@ impl Stop {
     }
 }
 
-// 3 for a fault, 9 for want of memory, 2 for a refused file.
+// 3 for a fault, 9 for out of memory, 2 for a refused file.
 fn read_status(error: ReadError) -> u8
     ensures { result ≡ status_of_reading error }
 {
@@ -65,7 +66,7 @@ fn read_status(error: ReadError) -> u8
     }
 }
 
-// 9 for want of memory, 8 for a limit.
+// 9 for out of memory, 8 for a limit.
 fn circuit_status(error: CircuitError) -> u8
     ensures { result ≡ status_of_circuit error }
 {
@@ -138,7 +139,7 @@ fn print_solving<O: Sink>(out: &mut O, error: SolveError) -> Result<(), WriteFau
     }
 }
 
-// What is said where no formula was read.
+// What is said if no formula was read.
 fn print_refusal<O: Sink>(out: &mut O, error: ReadError) -> Result<(), WriteFault>
     ensures bytes { Prints (O.held out.old) (O.held out.new) result (refusal_text error) }
     ensures cause { PrintCounts (O.faults out.old) (O.faults out.new) result }

@@ -10,7 +10,7 @@ pub bind_same : {A B E : Type 0} (r : Result A E) (f g : A → Result B E) → (
 bind_same (Ok x) f g h = h x
 bind_same (Err e) f g h = refl
 
--- both steps succeed where the whole does
+-- both steps succeed if the whole does
 pub bind_split : {A B E : Type 0} (r : Result A E) (f : A → Result B E) (y : B) → r >>= f ≡ Ok y → (x : A) × (r ≡ Ok x) × (f x ≡ Ok y)
 bind_split (Ok x) f y h = (x, refl, h)
 bind_split (Err e) f y h = let g : Err e ≡ Ok y = h in absurd (cc)

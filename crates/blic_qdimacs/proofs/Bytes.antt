@@ -12,7 +12,8 @@ use Rattle.blic_qdimacs.specs.declared.error.ReadError.TheVariants as errors
 use Rattle.blic_qdimacs.proofs.Written.{prepend_known_more}
 use Rattle.blic_qdimacs.proofs.Binds.{bind_assoc, bind_same}
 use Rattle.blic_qdimacs.specs.Binding.{◌>>=◌}
-use Rattle.blic_qdimacs.specs.Reading.{Reads, TakesAtMost}
+use Rattle.blic_qdimacs.specs.Reading.{Reads}
+use Rattle.blic_qdimacs.specs.Taking.{ForTaken}
 use Rattle.blic_qdimacs.specs.Machine.{Machine, start, after_byte, after_bytes, within_by_bytes, whole_by_bytes, cut_by_bytes, finished, Ends}
 
 pub after_bytes-append : (a b : List ℕ) (m : Machine) → after_bytes m (a ++ b) ≡ after_bytes m a >>= (λ n. after_bytes n b)
@@ -21,11 +22,11 @@ after_bytes-append (x ∷ a) b m =
     bind_same (after_byte x m) (λ n. after_bytes n (a ++ b)) (λ n. after_bytes n a >>= (λ p. after_bytes p b)) (λ n. after_bytes-append a b n)
     ∙ sym (bind_assoc (after_byte x m) (λ n. after_bytes n a) (λ p. after_bytes p b))
 
--- after the bytes of a front, those behind it
+-- after a prefix, the bytes that follow it
 pub after_front : (front more : List ℕ) (m : Machine) → after_bytes start front ≡ Ok m → after_bytes start (front ++ more) ≡ after_bytes m more
 after_front front more m reached = after_bytes-append front more start ∙ ap (λ r. r >>= (λ n. after_bytes n more)) reached
 
--- a front that is refused refuses the whole
+-- a prefix that is refused refuses the whole
 pub front_refused : (front more : List ℕ) (e : ReadError) → after_bytes start front ≡ Err e → after_bytes start (front ++ more) ≡ Err e
 front_refused front more e refused =
     after_bytes-append front more start ∙ ap (λ r. r >>= (λ n. after_bytes n more)) refused
@@ -182,6 +183,6 @@ fed_few most taken n few buffer is = omega (arith, length-take few buffer, is)
 
 -- with a piece more, no more than that many are taken
 pub taken_more : (most : ℕ) (old mid new : Option (List ℕ)) (bytes piece : List ℕ) → length bytes + length piece ≤ most
-    → old ≡ prepend_known bytes mid → mid ≡ prepend_known piece new → TakesAtMost most old new
+    → old ≡ prepend_known bytes mid → mid ≡ prepend_known piece new → ForTaken old new (λ taken. length taken ≤ most)
 taken_more most old mid new bytes piece few before after =
-    (bytes ++ piece, omega (arith, length-append bytes piece), prepend_known_more old mid new bytes piece before after)
+    (bytes ++ piece, prepend_known_more old mid new bytes piece before after, omega (arith, length-append bytes piece))

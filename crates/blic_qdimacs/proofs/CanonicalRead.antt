@@ -80,7 +80,7 @@ facts f fits =
     let c = and_parts (is_small f) (are_in_range f.vars f.prefix) b.0 in
     record { range = c.1; distinct = b.1; closed = a.1 }
 
--- the reader behind the text
+-- the reader after the text
 text_run : (f : PrenexFormula) → IsFormula f
     → (line : ℕ) × (j : ℕ) × (after_bytes start (canonical_text f) ≡ Ok (reading (header_for f) (headers.Both f.vars (length f.clauses)) line Start (open_items f.prefix f.clauses [] j)))
 text_run f fits =

@@ -107,7 +107,7 @@ dead_of : (s : Seen) (p : List ℕ) → is_dead s ≡ true → is_cnf_seen (seen
 dead_of s [] dead = dead_cnf s dead
 dead_of s (b ∷ p) dead = dead_of (seen_with s b) p (dead_with s b dead)
 
--- the first byte matters where it is `c`
+-- the first byte matters if it is `c`
 c_dead : (c : Bool) (s : Seen) (q : List ℕ) → is_dead s ≡ true → c ≡ false → is_cnf_seen (seen_of s q) ≡ is_cnf_seen (seen_of (cond c seen.C seen.Other) q)
 c_dead c s q dead other = dead_of s q dead ∙ sym (ap (λ t. is_cnf_seen (seen_of (cond t seen.C seen.Other) q)) other ∙ dead_of seen.Other q refl)
 

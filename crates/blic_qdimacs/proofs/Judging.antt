@@ -36,7 +36,7 @@ text_same : (h : Header) (line : ℕ) (s : Items) (text : List ℕ) → is_some_
 text_same h line s [] some = absurd (cc)
 text_same h line s (b ∷ p) some = kind_same h line s b p
 
--- a word, and those behind it
+-- a word, and those after it
 word_then : (h : Header) (at : ℕ) (ws : List Word) (es : List Event) (m : Machine) (r : Result Items ReadError)
     → ((s : Items) → run_events es (record m { items = s }) ≡ with_all m (after_words h ws s))
     → (with_items m r) >>= run_events es ≡ with_all m (r >>= after_words h ws)
@@ -54,14 +54,14 @@ words_step last h w ws m true problem line some ih =
     ∙ word_then h w.after (filter (λ v. nat_le v.after last) ws) (filter (is_within last) (map word_event ws)) m (after_word h w.line (kind_of w.text) m.items) ih
 words_step last h w ws m false problem line some ih = ih m.items
 
--- the words of a line behind the problem line
+-- the words of a line after the problem line
 pub words_run : (last : ℕ) (h : Header) (ws : List Word) (m : Machine) → m.problem ≡ Some h → OnLine m.line ws
     → run_events (filter (is_within last) (map word_event ws)) m ≡ with_all m (after_words h (filter (λ w. nat_le w.after last) ws) m.items)
 words_run last h [] m problem on = refl
 words_run last h (w ∷ ws) m problem on =
     words_step last h w ws m (nat_le w.after last) problem on.0 on.1 (λ s. words_run last h ws (record m { items = s }) problem on.2)
 
--- each word ends behind the first k bytes
+-- each word ends after the first k bytes
 abbrev pub AllBehind : ℕ → List Word → Type 0
 AllBehind k [] = Unit {0}
 AllBehind k (w ∷ ws) = (k < w.after) × AllBehind k ws
@@ -136,7 +136,7 @@ pub line_on_line : (c : Bool) (number k : ℕ) (t : List ℕ) → OnLine number 
 line_on_line true number k t = tt
 line_on_line false number k t = placed_on_line number k (parts_of is_blank t)
 
--- the events of a line and of those behind it, as far as they are seen
+-- the events of a line and of those after it, as far as they are seen
 pub line_split : (last at : ℕ) (ws : List Word) (es : List Event) (c : Bool) → nat_le at last ≡ c
     → filter (is_within last) ((map word_event ws ++ LineEnd at ∷ []) ++ es) ≡ (filter (is_within last) (map word_event ws) ++ cond c (LineEnd at ∷ []) []) ++ filter (is_within last) es
 line_split last at ws es c is =
@@ -161,7 +161,7 @@ parser m = Ok (read_of m)
 abbrev pub done : Header → Items → Result (Option Read) ReadError
 done h s = Ok (Some (record { header = h; items = s }))
 
--- a line behind the problem line ends
+-- a line after the problem line ends
 line_then : (h : Header) (at : ℕ) (f : List Event) (ws : List Word) (m : Machine) (r : Result Items ReadError) → m.problem ≡ Some h
     → ((s : Items) → run_events f (next_line (record m { items = s })) >>= parser ≡ after_words h ws s >>= done h)
     → (with_all m r >>= run_events (LineEnd at ∷ f)) >>= parser ≡ (r >>= after_words h ws) >>= done h
@@ -204,7 +204,7 @@ lines_step last number k h t ts m false beyond problem line ih =
     ∙ sym (ap (λ l. after_words h l m.items >>= done h)
     (filter-append (λ w. nat_le w.after last) ws vs ∙ ap (λ l. within_words last ws ++ l) (none_within last at vs le (lines_behind ts (number + 1) at)) ∙ append-nil (within_words last ws)))
 
--- the lines behind the problem line
+-- the lines after the problem line
 pub lines_run : (parts : List (List ℕ)) (last number k : ℕ) (h : Header) (m : Machine) → m.problem ≡ Some h → m.line ≡ number
     → run_events (filter (is_within last) (lines_events number k parts)) m >>= parser ≡ after_words h (within_words last (all_words (placed_lines number k parts))) m.items >>= done h
 lines_run [] last number k h m problem line = ap (λ p. Ok (read_with p m.items)) problem

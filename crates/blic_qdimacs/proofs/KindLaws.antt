@@ -28,7 +28,7 @@ digits_step : (t : Bool) (c : ℕ) (p : List ℕ) (negative : Bool) (v w : ℕ)
 digits_step true c p negative v w more = more
 digits_step false c p negative v w more = other_stays p
 
--- digits behind a number
+-- digits after a number
 pub digits_seen : (p : List ℕ) (negative : Bool) (v w : ℕ) → v ≡ min w 2147483648
     → seen_of (seen.Digits negative v) p ≡ cond (all_ascii_digits p) (seen.Digits negative (min (value_on w p) 2147483648)) seen.Other
 digits_seen [] negative v w e = ap (seen.Digits negative) e

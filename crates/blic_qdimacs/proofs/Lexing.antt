@@ -45,7 +45,7 @@ word_event w = WordEnd (seen_of seen.Nothing w.text) w.after
 abbrev pub line_events : Line → List Event
 line_events l = map word_event l.words ++ LineEnd l.after ∷ []
 
--- the events of the parts of a line, where a word that was seen so far is open
+-- the events of the parts of a line, if a word that was seen so far is open
 abbrev pub part_events : Seen → ℕ → List (List ℕ) → List Event → List Event
 part_events w k [] es = es
 part_events w k (p ∷ ps) es = emitted (seen_of w p) (k + length p + 1) (part_events seen.Nothing (k + length p + 1) ps es)

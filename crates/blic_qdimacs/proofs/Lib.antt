@@ -17,6 +17,7 @@ pub mod Sizes
 pub mod Small
 pub mod Sounding
 pub mod Spelling
+pub mod Stopping
 pub mod Table
 pub mod Walking
 pub mod WritingLaws

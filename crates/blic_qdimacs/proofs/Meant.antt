@@ -7,7 +7,7 @@ use Rattle.blic_qdimacs.specs.declared.error.ReadError.TheVariants as errors
 use Rattle.blic_qdimacs.specs.Binding.{◌>>=◌}
 use Rattle.blic_qdimacs.specs.Lines.{has_words, lines_of, placed_lines, line_of, parts_of, onto_first, is_line_end}
 use Rattle.blic_qdimacs.specs.Machine.{Machine, start, after_bytes, line_judged, next_line, read_of, finished, whole_by_bytes, cut_by_bytes, within_by_bytes}
-use Rattle.blic_qdimacs.specs.Meaning.{read_until, at_end, whole_meaning, cut_meaning, meaning_within}
+use Rattle.blic_qdimacs.specs.Meaning.{read_until, at_end, whole_meaning, cut_meaning, meaning_within, meaning}
 use Rattle.blic_qdimacs.specs.Reading.{Reads}
 use Rattle.blic_qdimacs.proofs.Binds.{bind_same, bind_assoc}
 use Rattle.blic_qdimacs.proofs.Bytes.{after_bytes-append}
@@ -68,7 +68,7 @@ whole bytes =
     (sym (bind_assoc (after_bytes start bytes) (λ m. after_bytes m line_end) parser) ∙ ap (λ r. r >>= parser) (sym (after_bytes-append bytes line_end start))
     ∙ front (bytes ++ line_end) ∙ ap (λ n. read_until n (lines_of (bytes ++ line_end))) (length-append bytes line_end) ∙ ap (read_until (length bytes + 1)) (lines_end bytes))
 
-abbrev too_long : {A : Type 0} → ℕ → A → Result PrenexFormula ReadError
+abbrev pub too_long : {A : Type 0} → ℕ → A → Result PrenexFormula ReadError
 too_long line x = Err (errors.TooLong line)
 
 cut_by : (r : Result Machine ReadError) (line : ℕ) → ((m : Machine) → r ≡ Ok m → m.line ≡ line) → r >>= (λ m. too_long m.line m) ≡ (r >>= parser) >>= too_long line
@@ -86,6 +86,7 @@ by_bytes most bytes =
     let few = nat_le (length bytes) most in
     ap (λ r. cond few r (cut_by_bytes (take most bytes))) (whole bytes) ∙ ap (λ r. cond few (whole_meaning bytes) r) (cut (take most bytes))
 
-pub reads_meant : (most : ℕ) (old : Option (List ℕ)) (r : Result PrenexFormula ReadError) → IfSome old (λ all. Reads r (within_by_bytes most all)) → IfSome old (λ all. Reads r (meaning_within most all))
-reads_meant most None r h = tt
-reads_meant most (Some all) r h = subst (Reads r) (by_bytes most all) h
+-- what is said of the machine is said of the meaning
+pub reads_meant : (old : Option (List ℕ)) (r : Result PrenexFormula ReadError) → IfSome old (λ bytes. Reads r (within_by_bytes 67108864 bytes)) → IfSome old (λ bytes. Reads r (meaning bytes))
+reads_meant None r reads = tt
+reads_meant (Some bytes) r reads = subst (Reads r) (by_bytes 67108864 bytes) reads

@@ -153,7 +153,7 @@ none_run last at s m false beyond =
 abbrev pub calm_end : Result Machine ReadError → Result Machine ReadError
 calm_end r = r >>= (λ n. Ok (calm n))
 
--- what the bytes behind do, from each state
+-- what the following bytes do, from each state
 abbrev Runs : ℕ → ℕ → List ℕ → Type 0
 Runs last k bs = (m : Machine) → calm_end (after_bytes m bs) ≡ run_events (filter (is_within last) (events m.mode m.word k bs)) (calm m)
 

@@ -37,7 +37,7 @@ use Rattle.blic_qdimacs.proofs.KindLaws.{number_of_kind, seen_alike}
 use Rattle.blic_qdimacs.proofs.Lexing.{seen_of, some_seen, some_text_seen}
 use Rattle.blic_qdimacs.proofs.Running.{dressed}
 
--- the reader behind the problem line, between two words
+-- the reader after the problem line, between two words
 abbrev pub reading : Header → HeaderSeen → ℕ → Mode → Items → Machine
 reading h hs line mode s = record { line = line; mode = mode; word = seen.Nothing; header = hs; problem = Some h; items = s }
 
@@ -181,7 +181,7 @@ literal_is_word : (negative : Bool) (v : ℕ) → v ≤ 2147483647 → IsWord (l
 literal_is_word true v small = (refl, refl, digits_inner (decimal v) (digits_decimal own v (wide v small)))
 literal_is_word false v small = decimal_word v small
 
--- a clause is open where it has a literal
+-- a clause is open if it has a literal
 abbrev place_for : List Lit → Place
 place_for [] = Between
 place_for (l ∷ ls) = InClause

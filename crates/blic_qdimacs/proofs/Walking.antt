@@ -1,4 +1,4 @@
--- The walk over lines to the first one with words, and over those behind it.
+-- The walk over lines to the first one with words, and over those after it.
 use Rattle.std.proofs.Common.{◌≡◌, ℕ, ◌+◌, ◌<◌, ◌≤◌, Bool, true, false, cond, List, [], ◌∷◌, ◌++◌, length, refl, ap, sym, ◌∙◌, arith, Some, None, Result, Ok, Err, nat_le, map, append_assoc, append-nil}
 use Rattle.std.specs.Prelude.{filter, flat_map}
 use Rattle.std.proofs.lemmas.Bool.{lt-leb, leb-true, leb-false, le-leb}
@@ -16,7 +16,7 @@ use Rattle.blic_qdimacs.proofs.Judging.{OnLine, within_words, events_within, run
 use Rattle.blic_qdimacs.proofs.Lexing.{Event, LineEnd, word_event, lines_events, parts_some}
 use Rattle.blic_qdimacs.proofs.Running.{is_within, run_event, run_events}
 
--- the reader at the start of a line, where no line before had words
+-- the reader at the start of a line, if no line before had words
 abbrev pub at_line : ℕ → Machine
 at_line number = record start { line = number }
 
@@ -90,7 +90,7 @@ pub words_kept : (ls : List Line) → all_words (filter has_words ls) ≡ all_wo
 words_kept [] = refl
 words_kept (l ∷ ls) = kept_step l.number l.after l.words ls ∙ ap (λ ws. l.words ++ ws) (words_kept ls)
 
--- no line behind the last byte is judged
+-- no line after the last byte is judged
 until_step : (last : ℕ) (l : Line) (c : Bool) (ls : List Line) → nat_le l.after last ≡ false → read_until last ls ≡ Ok None → read_until last (cond c (l ∷ ls) ls) ≡ Ok None
 until_step last l true ls beyond rest =
     ap (λ t. cond t (header_on l >>= (λ h. after_words h (filter (λ w. nat_le w.after last) (flat_map (λ l. l.words) ls)) (no_items l.number) >>= done h)) (Ok None)) beyond
@@ -115,7 +115,7 @@ header_then number last at f ls hs (Err e) is ih =
 header_then number last at f ls hs (Ok h) is ih =
     ap (λ x. ((with_problem (record (at_line number) { header = hs }) x >>= (λ n. Ok (next_line n))) >>= run_events f) >>= parser) is ∙ ih h
 
--- a line, and those behind it
+-- a line, and those after it
 abbrev behind_line : ℕ → ℕ → ℕ → List (List ℕ) → List Event
 behind_line last number at ts = filter (is_within last) (lines_events number at ts)
 

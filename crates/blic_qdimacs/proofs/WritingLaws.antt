@@ -7,14 +7,14 @@ use Rattle.blic_model.specs.declared.prefix.Bound.{Bound}
 use Rattle.blic_qdimacs.specs.Text.{Run, same_quant, quant_text, var_text, run_text, runs_of, with_bound, line_end}
 use Rattle.blic_qdimacs.specs.Writing.{start_text, prefix_left}
 
--- the text of runs, where a run of that quantifier is open
+-- the text of runs, if a run of that quantifier is open
 abbrev after : Quant → List Run → List ℕ
 after q [] = codes "0" ++ line_end
 after q (r ∷ runs) =
     cond (same_quant q r.quant) (flat_map var_text r.vars ++ codes "0" ++ line_end ++ flat_map run_text runs)
     (codes "0" ++ line_end ++ (run_text r ++ flat_map run_text runs))
 
--- the first run, where its quantifier is named
+-- the first run, if its quantifier is named
 begun_run : (q r : Quant) (v : ℕ) (vs : List ℕ) (runs : List Run)
     → flat_map run_text (with_bound (record { quant = q; var = v }) (record { quant = r; vars = vs } ∷ runs))
     ≡ quant_text q ++ var_text v ++ after q (record { quant = r; vars = vs } ∷ runs)

@@ -1,7 +1,7 @@
 -- Steps that may be refused, one after another.
 use Rattle.std.specs.Prelude.{Result, Ok, Err}
 
--- the second step is taken where the first was not refused
+-- the second step is taken if the first was not refused
 infixl 10 ◌>>=◌
 abbrev pub ◌>>=◌ : {A B E : Type 0} → Result A E → (A → Result B E) → Result B E
 (Ok x) >>= f = f x

@@ -13,7 +13,7 @@ pub record SpellsOne (bytes : List ℕ) (f : PrenexFormula) : Type 0 where
   pub no_other : (g : PrenexFormula) → Spells bytes g → g ≡ f
   pub no_refusal : (e : ReadError) → Refuses bytes e → ⊥
 
--- a fault and want of memory are no refusals of bytes
+-- a fault is no refusal of bytes, and neither is running out of memory
 abbrev pub IsRefusal : ReadError → Type 0
 IsRefusal e = (e ≢ errors.Fault) × (e ≢ errors.NoMem)
 

@@ -8,6 +8,7 @@ pub mod Meaning
 pub mod Reading
 pub mod Sound
 pub mod Tables
+pub mod Taking
 pub mod Text
 pub mod View
 pub mod Words

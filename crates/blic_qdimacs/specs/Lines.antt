@@ -1,7 +1,7 @@
 -- The lines of a text, and the words (tokens) on them.
 use Rattle.std.specs.Prelude.{ℕ, ◌+◌, ◌==◌, Bool, true, false, ◌||◌, cond, List, [], ◌∷◌, length, filter}
 
--- the byte at the front of the first part
+-- the first part, with a byte before it
 abbrev pub onto_first : ℕ → List (List ℕ) → List (List ℕ)
 onto_first b [] = (b ∷ []) ∷ []
 onto_first b (part ∷ parts) = (b ∷ part) ∷ parts
@@ -29,7 +29,7 @@ pub record Word : Type 0 where
   pub text : List ℕ
   pub after : ℕ
 
--- the parts of a line as words, where n bytes stand before the first part: each ends before a blank or the line's end
+-- the parts of a line as words, if n bytes stand before the first part: each ends before a blank or the line's end
 abbrev pub placed_words : ℕ → ℕ → List (List ℕ) → List Word
 placed_words line n [] = []
 placed_words line n (part ∷ parts) =
@@ -60,7 +60,7 @@ abbrev pub line_of : ℕ → ℕ → List ℕ → Line
 line_of number n bytes =
     record { number = number; words = cond (is_comment bytes) [] (words_of number n bytes); after = n + length bytes + 1 }
 
--- the parts of a text as lines, where n bytes stand before the first one
+-- the parts of a text as lines, if n bytes stand before the first one
 abbrev pub placed_lines : ℕ → ℕ → List (List ℕ) → List Line
 placed_lines number n [] = []
 placed_lines number n (bytes ∷ more) = line_of number n bytes ∷ placed_lines (number + 1) (n + length bytes + 1) more

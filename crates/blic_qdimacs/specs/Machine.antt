@@ -109,7 +109,7 @@ abbrev pub is_nothing : Seen → Bool
 is_nothing seen.Nothing = true
 is_nothing _ = false
 
--- the machine, where its items took a word
+-- the machine, whose items took a word
 abbrev pub with_items : Machine → Result Items ReadError → Result Machine ReadError
 with_items m (Ok s) = Ok (record m { items = s })
 with_items m (Err e) = Err e

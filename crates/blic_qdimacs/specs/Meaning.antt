@@ -61,7 +61,7 @@ free_bounds vars sets clauses = free_where (is_free sets clauses) vars
 abbrev pub formula_of : Header → Items → PrenexFormula
 formula_of h s = record { vars = h.vars; prefix = free_bounds h.vars s.sets s.clauses ++ s.sets; clauses = s.clauses }
 
--- the end comes between items, where no clause is missing
+-- the end must come between items, and no clause may be missing
 abbrev pub ended : Header → Items → Place → Result PrenexFormula ReadError
 ended h s Between = if nat_lt (length s.clauses) h.clauses then Err (errors.TooFewClauses s.line) else Ok (formula_of h s)
 ended h s (InSet q) = Err (errors.Unended s.line)
@@ -72,16 +72,16 @@ abbrev pub at_end : Option Read → Result PrenexFormula ReadError
 at_end None = Err (errors.NoProblemLine 0)
 at_end (Some r) = ended r.header r.items r.items.place
 
--- what all the bytes mean, where there are not too many
+-- what all the bytes mean, if there are not too many
 abbrev pub whole_meaning : List ℕ → Result PrenexFormula ReadError
 whole_meaning bytes = read_until (length bytes + 1) (lines_of bytes) >>= at_end
 
--- what the first bytes mean, where another byte is one too many
+-- what the first bytes mean, if one byte more is one too many
 abbrev pub cut_meaning : List ℕ → Result PrenexFormula ReadError
 cut_meaning first =
     read_until (length first) (lines_of first) >>= (λ r. Err (errors.TooLong (count_by is_line_end first + 1)))
 
--- the meaning where that many bytes are the most that may be
+-- the meaning, if a file may have at most that many bytes
 abbrev pub meaning_within : ℕ → List ℕ → Result PrenexFormula ReadError
 meaning_within most bytes = if nat_le (length bytes) most then whole_meaning bytes else cut_meaning (take most bytes)
 

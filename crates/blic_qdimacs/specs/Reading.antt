@@ -1,6 +1,5 @@
--- What an answer of the reader says of the bytes, of what was taken and of the source's faults.
-use Rattle.std.specs.Prelude.{◌≡◌, ◌≢◌, ◌≤◌, ℕ, List, length, Option, Result, Ok, Err}
-use Rattle.std.specs.Io.KnownBytes.{prepend_known}
+-- What an answer of the reader says of the bytes and of the source's faults.
+use Rattle.std.specs.Prelude.{◌≡◌, ◌≢◌, ℕ, Result, Ok, Err}
 use Rattle.blic_basic.specs.Outside.{Rose}
 use Rattle.blic_model.specs.Formula.{PrenexFormula}
 use Rattle.blic_qdimacs.specs.declared.error.ReadError.{ReadError}
@@ -10,10 +9,6 @@ use Rattle.blic_qdimacs.specs.declared.error.ReadError.TheVariants as errors
 abbrev pub Reads : Result PrenexFormula ReadError → Result PrenexFormula ReadError → Type 0
 Reads (Ok f) meant = meant ≡ Ok f
 Reads (Err e) meant = e ≢ errors.Fault → e ≢ errors.NoMem → meant ≡ Err e
-
--- what is gone is a front of at most that many bytes
-abbrev pub TakesAtMost : ℕ → Option (List ℕ) → Option (List ℕ) → Type 0
-TakesAtMost most old new = (front : List ℕ) × (length front ≤ most) × (old ≡ prepend_known front new)
 
 -- only `Fault` raises the source's count, and no other answer passes over a fault
 abbrev pub ReadCounts : {T : Type 0} → ℕ → ℕ → Result T ReadError → Type 0

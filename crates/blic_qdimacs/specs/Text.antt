@@ -17,7 +17,7 @@ same_quant Forall Forall = true
 same_quant Exists Forall = false
 same_quant Forall Exists = false
 
--- the runs with an entry before them: it joins the first run where that has its quantifier, and else is a run of its own
+-- the runs with an entry before them: it joins the first run if that has its quantifier, and is a run of its own if not
 abbrev pub with_bound : Bound → List Run → List Run
 with_bound b [] = record { quant = b.quant; vars = b.var ∷ [] } ∷ []
 with_bound b (r ∷ runs) =
@@ -49,7 +49,7 @@ var_text v = decimal v ++ codes " "
 abbrev pub run_text : Run → List ℕ
 run_text r = quant_text r.quant ++ flat_map var_text r.vars ++ codes "0" ++ line_end
 
--- a minus where it is negative, its variable, and a space
+-- a minus if it is negative, its variable, and a space
 abbrev pub literal_text : Lit → List ℕ
 literal_text l = cond l.negative (codes "-") [] ++ decimal l.var ++ codes " "
 

@@ -10,7 +10,7 @@ pub data Kind : Type 0 where
   Number : Bool → ℕ → Kind
   Other : Kind
 
--- the value of digits behind a number
+-- the value of digits after those that have the value n
 abbrev pub value_on : ℕ → List ℕ → ℕ
 value_on n [] = n
 value_on n (c ∷ cs) = value_on (10 * n + (c - 48)) cs

@@ -9,12 +9,12 @@ abbrev pub end_text : Option Quant → List ℕ
 end_text None = []
 end_text (Some quant) = codes "0" ++ line_end
 
--- what stands before a variable of that quantifier, where that run is open
+-- what stands before a variable of that quantifier, if such a run is open
 abbrev pub start_text : Option Quant → Quant → List ℕ
 start_text None quant = quant_text quant
 start_text (Some current) quant = cond (same_quant current quant) [] (codes "0" ++ line_end ++ quant_text quant)
 
--- the rest of the prefix, where that run is open
+-- the rest of the prefix, if such a run is open
 abbrev pub prefix_left : Option Quant → List Bound → List ℕ
 prefix_left current [] = end_text current
 prefix_left current (b ∷ bounds) = start_text current b.quant ++ var_text b.var ++ prefix_left (Some b.quant) bounds

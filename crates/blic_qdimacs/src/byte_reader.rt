@@ -176,7 +176,7 @@ impl ByteReader {
         })
     }
 
-    /// The formula, where the source has ended.
+    /// The formula, once the source has ended; or what is wrong or missing at the end.
     pub fn finish(mut self) -> Result<Formula, ReadError>
         requires { Sound (machine_of self) }
         ensures answer { Ends result (finished (machine_of self)) }

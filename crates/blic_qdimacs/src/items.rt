@@ -227,7 +227,7 @@ impl ItemReader {
         })
     }
 
-    /// The formula, where the source has ended.
+    /// The formula, once the source has ended; or what is missing at the end.
     pub fn finish(self, alloc: Global, problem: Problem) -> Result<Formula, ReadError>
         requires { SoundItems (header_of problem) (items_of self) }
         ensures answer { Ends result (ended (header_of problem) (items_of self) self.place) }

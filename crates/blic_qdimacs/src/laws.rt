@@ -7,7 +7,7 @@ ghost use Rattle.blic_qdimacs.specs.Meaning.{Spells};
 ghost use Rattle.blic_qdimacs.specs.Text.{canonical_text};
 
 /// Each text either spells exactly one formula, which is within the limits, or has exactly one
-/// first refusal, which is no fault and no want of memory. It does nothing when it runs.
+/// first refusal, which is neither a fault nor running out of memory. It does nothing when it runs.
 pub fn judgement_law()
     ensures { (bytes : List ℕ) → IsJudged bytes }
 {}

@@ -9,8 +9,8 @@ use blic_model::Formula;
 use sha2::{Digest, Sha256};
 use std::alloc::Global;
 
-/// The digest that names a formula: the SHA-256 (FIPS 180-4) of its canonical text. Only want of
-/// memory fails.
+/// The digest that names a formula: the SHA-256 (FIPS 180-4) of its canonical text. It fails
+/// only if memory runs out.
 pub fn name_of(alloc: Global, formula: &Formula) -> Result<[u8; 32], NoMem>
     ensures { IfOk result (λ name. name ≡ sha256 (canonical_text formula.now)) }
 {

@@ -1,10 +1,11 @@
 // Reads a formula from a source.
-ghost use Rattle.std.specs.Prelude.{◌≡◌, ◌≤◌, ◌+◌, ◌<◌, ℕ, [], OnOk, IfSome, IfOk, length};
+ghost use Rattle.std.specs.Prelude.{◌≡◌, ◌≤◌, ◌+◌, ◌<◌, ℕ, [], OnOk, IfSome, IfOk, IfErr, length};
 ghost use Rattle.blic_basic.specs.Outside.{Takes, TakeCounts, IfGot};
 ghost use Rattle.blic_model.specs.Limits.{IsFormula};
 ghost use Rattle.blic_qdimacs.specs.Machine.{within_by_bytes};
 ghost use Rattle.blic_qdimacs.specs.Meaning.{meaning};
-ghost use Rattle.blic_qdimacs.specs.Reading.{Reads, ReadCounts, TakesAtMost};
+ghost use Rattle.blic_qdimacs.specs.Reading.{Reads, ReadCounts};
+ghost use Rattle.blic_qdimacs.specs.Taking.{ForTaken, StopsEarly};
 
 use crate::byte_reader::ByteReader;
 use crate::error::ReadError;
@@ -16,7 +17,7 @@ use std::alloc::Global;
 const MOST_BYTES: usize = 67_108_864;
 
 // The room for one piece of a file.
-const PIECE: usize = 4096;
+const PIECE: usize = 65_536;
 
 // Takes at most so many bytes.
 fn take_at_most<S: Source>(source: &mut S, buffer: &mut [u8], most: usize) -> Taken
@@ -34,7 +35,8 @@ fn read_by_bytes<S: Source>(alloc: Global, source: &mut S) -> Result<Formula, Re
     ensures exact { IfSome (S.left source.old) (λ bytes. Reads result (within_by_bytes 67108864 bytes)) }
     ensures formula { IfOk result (λ formula. IsFormula formula) }
     ensures end { OnOk result (IfSome (S.left source.new) (λ rest. rest ≡ [])) }
-    ensures taken { TakesAtMost 67108865 (S.left source.old) (S.left source.new) }
+    ensures taken { ForTaken (S.left source.old) (S.left source.new) (λ taken. length taken ≤ 67108865) }
+    ensures early { IfErr result (λ e. ForTaken (S.left source.old) (S.left source.new) (StopsEarly 65535 e)) }
     ensures cause { ReadCounts (S.faults source.old) (S.faults source.new) result }
 {
     let mut reader = ByteReader::new(alloc)?;
@@ -57,8 +59,10 @@ fn read_by_bytes<S: Source>(alloc: Global, source: &mut S) -> Result<Formula, Re
 /// bytes. A file without sets is a plain CNF. Variables of the clauses that stand in no set are
 /// existential, outermost, in rising order.
 ///
-/// After an `Ok` nothing is left of the source. After an `Err` some of it may be gone, and how much
-/// is left is not said.
+/// After an `Ok` nothing is left of the source. The first bytes decide a refusal if it comes
+/// whatever follows them: then at most 65,535 bytes more than these are taken. Whatever is answered,
+/// at most 67,108,865 bytes are taken in all.
+#[tactic(auto, using(crate::proofs::Meant::reads_meant))]
 pub fn read<S: Source>(alloc: Global, source: &mut S) -> Result<Formula, ReadError>
     // The formula is the one that the bytes spell, and a refusal is the first that stands in them.
     ensures exact { IfSome (S.left source.old) (λ bytes. Reads result (meaning bytes)) }
@@ -66,7 +70,10 @@ pub fn read<S: Source>(alloc: Global, source: &mut S) -> Result<Formula, ReadErr
     ensures end { OnOk result (IfSome (S.left source.new) (λ rest. rest ≡ [])) }
 
     // One byte more than a file may have is enough to refuse it.
-    ensures taken { TakesAtMost 67108865 (S.left source.old) (S.left source.new) }
+    ensures taken { ForTaken (S.left source.old) (S.left source.new) (λ taken. length taken ≤ 67108865) }
+
+    // The piece with the byte that decides a refusal is the last one.
+    ensures early { IfErr result (λ e. ForTaken (S.left source.old) (S.left source.new) (StopsEarly 65535 e)) }
     ensures cause { ReadCounts (S.faults source.old) (S.faults source.new) result }
 {
     read_by_bytes(alloc, source)

@@ -224,3 +224,59 @@ fn no_more_is_taken_than_a_file_and_one_byte(rt: HostRuntime) {
         assert_eq!(rt; source.given, 67_108_865);
     }
 }
+
+// Texts whose last byte decides the refusal.
+const DECIDED: [(&str, ReadError); 14] = [
+    ("e 1 0\n", ReadError::NoProblemLine { line: 1 }),
+    ("p cnf 1\n", ReadError::BadProblemLine { line: 1 }),
+    (
+        "p cnf 65536 2147483648\n",
+        ReadError::NumberTooLarge { line: 1 },
+    ),
+    ("p cnf 65536 0\n", ReadError::TooManyVariables { line: 1 }),
+    ("p cnf 1 1048577\n", ReadError::ClauseLimit { line: 1 }),
+    (
+        "p cnf 2 0\ne 2147483648 ",
+        ReadError::NumberTooLarge { line: 2 },
+    ),
+    (
+        "p cnf 1 1\n2147483648\n",
+        ReadError::NumberTooLarge { line: 2 },
+    ),
+    ("p cnf 1 1\n1 x ", ReadError::BadToken { line: 2 }),
+    ("p cnf 2 1\n1 0\ne ", ReadError::SetAfterClause { line: 3 }),
+    ("p cnf 1 1\n2 ", ReadError::VariableTooLarge { line: 2 }),
+    ("p cnf 2 1\ne 3\t", ReadError::VariableTooLarge { line: 2 }),
+    (
+        "p cnf 2 1\ne 1 2 0\na 1\r",
+        ReadError::BoundTwice { line: 3 },
+    ),
+    ("p cnf 1 1\n1 0\n-1 ", ReadError::TooManyClauses { line: 3 }),
+    ("p cnf 1 1\n1 0\n0\n", ReadError::TooManyClauses { line: 3 }),
+];
+
+#[test]
+fn a_refusal_takes_at_most_65535_bytes_past_the_one_that_decides_it(
+    rt: HostRuntime,
+) -> Result<(), Fail> {
+    // After the deciding byte come 200,002 bytes.
+    let spaces = vec![in rt.alloc(); b' '; 200_000]?;
+    for (text, refusal) in DECIDED {
+        let mut bytes = Vec::from_slice(rt.alloc(), text.as_bytes())?;
+        bytes.extend_from_slice(b"0\n")?;
+        bytes.extend_from_slice(&spaces)?;
+        for most in [1, 7, 4096, 65_536] {
+            let mut source = Pieces {
+                left: &bytes,
+                most,
+                fails: false,
+                faults: 0,
+            };
+            let answer = read(rt.alloc(), &mut source).map(|_| ());
+            assert_eq!(rt; answer, Err(refusal), "{text} in pieces of {most}");
+            let left = source.left.len();
+            assert!(rt; left >= 134_467, "{text} in pieces of {most}: {left} left");
+        }
+    }
+    Ok(())
+}

@@ -8,7 +8,7 @@ use blic_model::{Bound, Formula, Lit, Quant};
 use std::alloc::{AllocError, Global};
 use std::fmt::Write;
 
-/// The canonical text of a formula, in ASCII. Only want of memory fails.
+/// The canonical text of a formula, in ASCII. It fails only if memory runs out.
 ///
 /// Its lines are each ended by LF: `p cnf V C`; for each longest run of equal quantifiers in the
 /// prefix `e` or `a`, the variables in order, and `0`; for each clause its literals and `0`. One
