@@ -1,59 +1,63 @@
 -- The table of what parts became, with one part more.
-use Rattle.std.proofs.Common.{arith, ℕ, ◌+◌, ◌<◌, ◌≤◌, ◌≡◌, refl, sym, ◌∙◌, ap, ◌⊎◌, inl, inr, List, length, map, subst, false, true}
+use Rattle.std.proofs.Common.{arith, ℕ, zero, suc, ◌+◌, ◌*◌, ◌<◌, ◌≤◌, ◌≡◌, ◌≢◌, refl, sym, ◌∙◌, ap, ◌⊎◌, inl, inr, subst, cond, eqb, false, true}
 use Rattle.std.specs.Prelude.{Result, Ok, Err, if◌then◌else◌}
 use Rattle.std.specs.Result.{is_err, is_ok}
-use Rattle.std.proofs.lemmas.Bool.{cases_lt}
-use Rattle.std.proofs.lemmas.List.{get_or-map, length-map, length_push}
-use Rattle.blic_store.specs.Numbers.{IsOnce}
-use Rattle.blic_store.proofs.Numbers.{once_few, once_push, push_front, push_last}
-use Rattle.blic_apply.specs.declared.part_table.Entry.{Entry}
-use Rattle.blic_apply.specs.PartTable.{HasBecome, HasPlaces, IsNew, IsPlaced, Table, answer_at, answer_of, entry_at, part_at, part_of, with_part}
-
--- a table has an answer for each part, and each part once
-pub record IsTable (t : Table) : Type 0 where
-  pub same_length : length t.parts ≡ length t.answers
-  pub once : IsOnce t.parts
+use Rattle.std.proofs.lemmas.Bool.{cases_eq, cases_lt, eq-eqb, ne_eqb}
+use Rattle.std.proofs.Math.Nat.{suc-mul}
+use Rattle.std.proofs.Math.Numerals.{suc-eq-add-one}
+use Rattle.blic_apply.specs.declared.part_table.Mark.{Mark}
+use Rattle.blic_apply.specs.PartTable.{Enters, HasBecome, IsNew, Table, mark_at}
 
 -- What the longer table has: the new part, or what the table had.
-pub become_push : (t : Table) (part answer r s : ℕ) → IsTable t → HasBecome (with_part t part answer) r s → ((r ≡ part) × (answer ≡ s)) ⊎ HasBecome t r s
-become_push t part answer r s i b =
-    let len = length_push t.parts part in
-    let range = b.in_range in
-    let same = i.same_length in
-    elim (cases_lt b.place (length t.parts)) [
-      | inl l ↦ inr (record {
-        place = b.place;
-        in_range = l;
-        part = sym (push_front t.parts part b.place l) ∙ b.part;
-        answer = sym (push_front t.answers answer b.place (omega arith)) ∙ b.answer;
-      })
-      | inr l ↦ (let last : b.place ≡ length t.parts = omega arith in
-          let last_answer : b.place ≡ length t.answers = omega arith in
-          inl (
-            sym b.part ∙ push_last t.parts part b.place last,
-            sym (push_last t.answers answer b.place last_answer) ∙ b.answer,
-          ))
-    ]
+pub become_enters : (old new : Table) (part answer r s : ℕ) → Enters old new part answer → HasBecome new r s → ((r ≡ part) × (answer ≡ s)) ⊎ HasBecome old r s
+become_enters old new part answer r s e b = elim (cases_eq r part) [
+  | inl q ↦ inl (q, sym e.entered.answer ∙ (sym (ap (λ k. (mark_at new.marks k).answer) q) ∙ b.answer))
+  | inr ne ↦ (let same = e.others r ne in
+      inr (record { round = ap (λ (m : Mark). m.round) (sym same) ∙ (b.round ∙ e.round); answer = ap (λ (m : Mark). m.answer) (sym same) ∙ b.answer }))
+]
 
-pub push_table : (t : Table) (part answer : ℕ) → IsTable t → IsNew t part → IsTable (with_part t part answer)
-push_table t part answer i n = record {
-  same_length =
-      let a = length_push t.parts part in
-      let b = length_push t.answers answer in
-      let same = i.same_length in
-      omega arith;
-  once = once_push t.parts part i.once n;
-}
+pub new_enters : (old new : Table) (part answer r : ℕ) → Enters old new part answer → r ≢ part → IsNew old r → IsNew new r
+new_enters old new part answer r e ne n q = n (ap (λ (m : Mark). m.round) (sym (e.others r ne)) ∙ (q ∙ e.round))
 
--- Parts up to a are at most a + 1.
-pub few : (t : Table) (a : ℕ) → IsTable t → ((r s : ℕ) → HasBecome t r s → r ≤ a) → length t.parts ≤ a + 1
-few t a i below =
-    once_few t.parts (a + 1)
-    (λ k l. let w = below (part_at t k) (answer_at t k) (record { place = k; in_range = l; part = refl; answer = refl }) in omega arith)
-    i.once
+-- whether the table lacks a ref
+abbrev pub lacking : Table → ℕ → ℕ
+lacking t r = cond (eqb (mark_at t.marks r).round t.round) 0 1
 
-pub longer : (t next : Table) (part answer : ℕ) → next ≡ with_part t part answer → length next.parts ≡ length t.parts + 1
-longer t next part answer e = ap (λ (z : Table). length z.parts) e ∙ length_push t.parts part
+-- how many refs below n the table lacks
+abbrev pub missing : Table → ℕ → ℕ
+missing t zero = 0
+missing t (suc n) = missing t n + lacking t n
+
+lacking_same : (old new : Table) (part answer r : ℕ) → Enters old new part answer → r ≢ part → lacking new r ≡ lacking old r
+lacking_same old new part answer r e ne =
+    ap (λ (m : Mark). cond (eqb m.round new.round) 0 1) (e.others r ne) ∙ ap (λ k. cond (eqb (mark_at old.marks r).round k) 0 1) e.round
+
+missing_same : (old new : Table) (part answer n : ℕ) → Enters old new part answer → n ≤ part → missing new n ≡ missing old n
+missing_same old new part answer zero e l = refl
+missing_same old new part answer (suc n) e l =
+    let before = missing_same old new part answer n e (omega arith) in
+    let here = lacking_same old new part answer n e (λ q. absurd (omega arith)) in
+    omega (arith, before, here)
+
+-- With a part that was new, one ref less is lacking.
+pub missing_less : (old new : Table) (part answer n : ℕ) → Enters old new part answer → IsNew old part → part < n → missing old n ≡ missing new n + 1
+missing_less old new part answer zero e w l = absurd (omega arith)
+missing_less old new part answer (suc n) e w l = elim (cases_lt part n) [
+  | inl m ↦ (let before = missing_less old new part answer n e w m in
+      let here = lacking_same old new part answer n e (λ q. absurd (omega arith)) in
+      omega (arith, before, here))
+  | inr m ↦ (let at : n ≡ part = omega arith in
+      let before = missing_same old new part answer n e (omega arith) in
+      let gone : lacking new n ≡ 0 = ap (lacking new) at ∙ ap (λ b. cond b 0 1) (eq-eqb (mark_at new.marks part).round new.round e.entered.round) in
+      let was : lacking old n ≡ 1 = ap (lacking old) at ∙ ap (λ b. cond b 0 1) (ne_eqb (mark_at old.marks part).round old.round w) in
+      omega (arith, before, gone, was))
+]
+
+-- Then the walk has less to do, wherever it goes on.
+pub fewer : (a m n at above : ℕ) → m ≡ n + 1 → above ≤ a → n * (a + 1) + above < m * (a + 1) + at
+fewer a m n at above e l =
+    let w : m * (a + 1) ≡ n * (a + 1) + (a + 1) = ap (λ z. z * (a + 1)) (e ∙ sym (suc-eq-add-one n)) ∙ suc-mul n (a + 1) in
+    omega arith
 
 pub if_ok : {A E : Type 0} {X : Type 0} (r : Result A E) (x y : X) → false ≡ is_err r → (if is_ok r then x else y) ≡ x
 if_ok (Ok o) x y e = refl
@@ -61,30 +65,3 @@ if_ok (Err w) x y e = absurd (differ e)
   where
     differ : false ≡ true → ⊥
     differ q = cc
-
--- A table by its entries.
-abbrev pub table_of : List Entry → Table
-table_of entries = record { parts = map part_of entries; answers = map answer_of entries }
-
-none : Entry
-none = record { part = 0; answer = 0 }
-
--- A part that has no place is none of the table's.
-pub new_unplaced : (places : List ℕ) (entries : List Entry) (r : ℕ) → HasPlaces places entries → (IsPlaced places entries r → ⊥) → IsNew (table_of entries) r
-unfolding none
-new_unplaced places entries r h n k l e =
-    let len = length-map entries part_of in
-    let at : part_at (table_of entries) k ≡ (entry_at entries k).part = get_or-map part_of entries k none 0 (omega arith) in
-    n (subst (IsPlaced places entries) (sym at ∙ e) (h k (omega arith)))
-
--- An entry of the part is what it became.
-pub become_at : (entries : List Entry) (k r : ℕ) (x : Entry) → k < length entries → x ≡ entry_at entries k → x.part ≡ r → HasBecome (table_of entries) r x.answer
-unfolding none
-become_at entries k r x l e q =
-    let len = length-map entries part_of in
-    record {
-      place = k;
-      in_range = omega arith;
-      part = get_or-map part_of entries k none 0 l ∙ (ap part_of (sym e) ∙ q);
-      answer = get_or-map answer_of entries k none 0 l ∙ ap answer_of (sym e);
-    }

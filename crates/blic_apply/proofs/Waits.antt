@@ -11,7 +11,7 @@ use Rattle.blic_store.proofs.Numbers.{push_front, push_last}
 use Rattle.blic_store.proofs.Parts.{decision_kept}
 use Rattle.blic_store.proofs.Paths.{IsPath, at_hand, path_up, side_before}
 use Rattle.blic_apply.specs.Changing.{IsChanged}
-use Rattle.blic_apply.specs.PartTable.{Table, with_part}
+use Rattle.blic_apply.specs.PartTable.{Enters, Table}
 use Rattle.blic_apply.specs.declared.change.Change.{Change}
 use Rattle.blic_apply.specs.declared.rewriting.Waiting.{Waiting}
 use Rattle.blic_apply.specs.declared.rewriting.Waiting.TheVariants.{Low, High}
@@ -117,7 +117,7 @@ pub record IsResumed (change : Change) (old new : List Decision) (a : ℕ) (wait
 
 pub resumed : (change : Change) (old : List Decision) (now new : Diagrams) (a : ℕ) (waiting rest : List Waiting) (f : Waiting) (at level low high made : ℕ) (table next : Table)
     → IsWalk change old now.nodes a (path_of waiting at) table → AreWaiting change now.nodes waiting at → waiting ≡ rest ++ f ∷ []
-    → level ≡ level_of now.nodes at → IsReady change now.nodes at low high → Answers (choice_of now.nodes level low high) now new made → next ≡ with_part table at made
+    → level ≡ level_of now.nodes at → IsReady change now.nodes at low high → Answers (choice_of now.nodes level low high) now new made → Enters table next at made
     → IsResumed change old new.nodes a rest f next made
 resumed change old now new a waiting rest f at level low high made table next w waits e l r m t =
     let g = choice_of now.nodes level low high in
@@ -129,7 +129,7 @@ resumed change old now new a waiting rest f at level low high made table next w 
     let last = at_hand now.nodes a (map waiting_part rest) (waiting_part f) leads in
     record {
       walk = subst (λ z. IsWalk change old new.nodes a z next) path
-          (subst (IsWalk change old new.nodes a (map waiting_part waiting)) (sym t) (walk_up change old now new a (map waiting_part waiting) at level low high made table w l r m some));
+          (walk_up change old now new a (map waiting_part waiting) at level low high made table next w l r m t some);
       waits = λ k i.
           let long = length-map rest waiting_part in
           let longer = length_push (map waiting_part rest) (waiting_part f) in

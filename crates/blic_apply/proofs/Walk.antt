@@ -7,14 +7,14 @@ use Rattle.blic_store.specs.Diagram.{IsRef, IsSideOf, function, level_of, low_of
 use Rattle.blic_store.specs.Canonical.{IsCanonical}
 use Rattle.blic_store.specs.Growth.{Diagrams, Adds, Answers}
 use Rattle.blic_store.specs.Under.{IsLedTo}
-use Rattle.blic_store.proofs.Numbers.{Each, each_front, each_last, each_push, falling_above, lacks_push}
+use Rattle.blic_store.proofs.Numbers.{Each, each_front, each_last, each_push, falling_above}
 use Rattle.blic_store.proofs.Parts.{adds_more, function-kept, level_kept, no_shorter}
 use Rattle.blic_store.proofs.Paths.{IsPath, at_hand, path_down, path_first, path_kept, path_up}
 use Rattle.blic_store.proofs.Made.{adds_none}
 use Rattle.blic_apply.specs.Changing.{HasChanged, IsChanged, IsMissing, IsUnsettled, LeavesOpen, changed}
-use Rattle.blic_apply.specs.PartTable.{HasBecome, IsNew, Table, with_part}
+use Rattle.blic_apply.specs.PartTable.{Enters, HasBecome, IsEmpty, IsNew, Table}
 use Rattle.blic_apply.specs.declared.change.Change.{Change}
-use Rattle.blic_apply.proofs.Table.{IsTable, become_push, push_table}
+use Rattle.blic_apply.proofs.Table.{become_enters, new_enters}
 use Rattle.blic_apply.proofs.Changing.{IsReady, changed_after, changed_same, ready_is}
 
 -- A part that is changed gives a part of the changed function.
@@ -42,21 +42,16 @@ pub record IsWalk (change : Change) (old now : List Decision) (a : ℕ) (path : 
   pub leads : IsPath now a path
   pub pending : Each (IsPending change now table) path
   pub made : (r s : ℕ) → HasBecome table r s → IsMade change now a r s
-  pub entered : IsTable table
 
 -- The walk's beginning.
-first : (change : Change) (old : List Decision) (a : ℕ) → IsCanonical old → IsRef old a → IsUnsettled change old a → IsWalk change old old a (a ∷ []) (record { parts = []; answers = [] })
-first change old a c h u = record {
+pub walk_first : (change : Change) (old : List Decision) (a : ℕ) (table : Table) → IsCanonical old → IsRef old a → IsUnsettled change old a → IsEmpty table → IsWalk change old old a (a ∷ []) table
+walk_first change old a table c h u none = record {
   a_held = h;
   adds = adds_none (changed change (function old a)) old c;
   leads = path_first old a h u.inner;
-  pending = each_push (IsPending change old (record { parts = []; answers = [] })) [] a (λ k l. absurd (omega arith)) (record { unsettled = u; unmade = λ j l. absurd (omega arith) });
-  made = λ r s e. let none = e.in_range in absurd (omega arith);
-  entered = record { same_length = refl; once = λ j k l m. absurd (omega arith) };
+  pending = each_push (IsPending change old table) [] a (λ k l. absurd (omega arith)) (record { unsettled = u; unmade = none a });
+  made = λ r s e. absurd (none r e.round);
 }
-
-pub walk_first : (change : Change) (old : List Decision) (a : ℕ) (table : Table) → IsCanonical old → IsRef old a → IsUnsettled change old a → table ≡ record { parts = []; answers = [] } → IsWalk change old old a (a ∷ []) table
-walk_first change old a table c h u none = subst (IsWalk change old old a (a ∷ [])) (sym none) (first change old a c h u)
 
 -- the part in hand
 pub record IsInHand (change : Change) (nodes : List Decision) (table : Table) (a at : ℕ) : Type 0 where
@@ -84,7 +79,6 @@ walk_down change old now a xs at r table w side m = record {
   leads = path_down now w.adds.canonical a xs at r w.leads side m.unsettled.inner;
   pending = each_push (IsPending change now table) (xs ++ at ∷ []) r w.pending (record { unsettled = m.unsettled; unmade = m.unmade });
   made = w.made;
-  entered = w.entered;
 }
 
 -- What is known of a ref stays where decisions are added.
@@ -144,10 +138,10 @@ walk_answers change old now new a at level low high made table w e r l m =
     }
 
 -- Else the part that waited for it comes next.
-pub walk_up : (change : Change) (old : List Decision) (now new : Diagrams) (a : ℕ) (xs : List ℕ) (at level low high made : ℕ) (table : Table) → IsWalk change old now.nodes a (xs ++ at ∷ []) table
-    → level ≡ level_of now.nodes at → IsReady change now.nodes at low high → Answers (choice_of now.nodes level low high) now new made → 0 < length xs
-    → IsWalk change old new.nodes a xs (with_part table at made)
-walk_up change old now new a xs at level low high made table w e r m some =
+pub walk_up : (change : Change) (old : List Decision) (now new : Diagrams) (a : ℕ) (xs : List ℕ) (at level low high made : ℕ) (table next : Table) → IsWalk change old now.nodes a (xs ++ at ∷ []) table
+    → level ≡ level_of now.nodes at → IsReady change now.nodes at low high → Answers (choice_of now.nodes level low high) now new made → Enters table next at made → 0 < length xs
+    → IsWalk change old new.nodes a xs next
+walk_up change old now new a xs at level low high made table next w e r m t some =
     let g = choice_of now.nodes level low high in
     let len = length_push xs at in
     let a_now : IsRef now.nodes a = let l = no_shorter (changed change (function old a)) old now.nodes w.adds in let h = w.a_held in omega arith in
@@ -160,9 +154,9 @@ walk_up change old now new a xs at level low high made table w e r m some =
           let apart : get_or xs k 0 ≢ at = let f = falling_above xs at w.leads.falling k h in omega arith in
           record {
             unsettled = unsettled_kept change g now.nodes new.nodes m.adds (get_or xs k 0) (each_front (IsLedTo now.nodes a) xs at w.leads.led k h).1.held p.unsettled;
-            unmade = lacks_push table.parts at (get_or xs k 0) p.unmade apart;
+            unmade = new_enters table next at made (get_or xs k 0) t apart p.unmade;
           };
-      made = λ q s found. elim (become_push table at made q s w.entered found) [
+      made = λ q s found. elim (become_enters table next at made q s t found) [
         | inl here ↦ record {
           in_range = let b = (in_hand change old now.nodes a xs at table w).in_range in let e = here.0 in omega arith;
           changed = subst (IsChanged change new.nodes q) here.1 (subst (λ z. IsChanged change new.nodes z made) (sym here.0) (walk_made change old now new a xs at level low high made table w e r m));
@@ -171,5 +165,4 @@ walk_up change old now new a xs at level low high made table w e r m some =
             let b = old_made.in_range in
             record { in_range = b; changed = changed_kept change g now.nodes new.nodes m.adds q s (omega arith) old_made.changed })
       ];
-      entered = push_table table at made w.entered (in_hand change old now.nodes a xs at table w).unmade;
     }

@@ -1,52 +1,39 @@
--- Private: a table of parts: their refs, and what each of them became.
-use Rattle.std.specs.Prelude.{ℕ, ◌<◌, ◌≤◌, ◌≡◌, List, [], ◌∷◌, ◌++◌, length, slice_index_or}
-use Rattle.blic_store.specs.Numbers.{Lacks}
-use Rattle.blic_apply.specs.declared.part_table.Entry.{Entry}
+-- Private: a table of parts: for each ref a mark of what it became, which holds if it is of the table's round.
+use Rattle.std.specs.Prelude.{ℕ, ◌<◌, ◌≤◌, ◌≡◌, ◌≢◌, List, length, slice_index_or}
+use Rattle.blic_apply.specs.declared.part_table.Mark.{Mark}
 
 pub record Table : Type 0 where
-  pub parts : List ℕ
-  pub answers : List ℕ
+  pub marks : List Mark
+  pub round : ℕ
 
-abbrev pub part_at : Table → ℕ → ℕ
-part_at t k = slice_index_or t.parts k 0
+abbrev pub mark_at : List Mark → ℕ → Mark
+mark_at marks r = slice_index_or marks r (record { round = 0; answer = 0 })
 
-abbrev pub answer_at : Table → ℕ → ℕ
-answer_at t k = slice_index_or t.answers k 0
-
--- the table has part r, which became s
+-- the table has ref r, which became s
 pub record HasBecome (t : Table) (r s : ℕ) : Type 0 where
-  pub place : ℕ
-  pub in_range : place < length t.parts
-  pub part : part_at t place ≡ r
-  pub answer : answer_at t place ≡ s
+  pub round : (mark_at t.marks r).round ≡ t.round
+  pub answer : (mark_at t.marks r).answer ≡ s
 
--- the table lacks r
+-- the table lacks ref r
 abbrev pub IsNew : Table → ℕ → Type 0
-IsNew t = Lacks t.parts
+IsNew t r = (mark_at t.marks r).round ≢ t.round
 
--- the table with one part more
-abbrev pub with_part : Table → ℕ → ℕ → Table
-with_part t part answer = record { parts = t.parts ++ part ∷ []; answers = t.answers ++ answer ∷ [] }
+-- the table lacks all refs
+abbrev pub IsEmpty : Table → Type 0
+IsEmpty t = (r : ℕ) → IsNew t r
 
-abbrev pub part_of : Entry → ℕ
-part_of e = e.part
+-- the table has one part more
+pub record Enters (old new : Table) (part answer : ℕ) : Type 0 where
+  pub round : new.round ≡ old.round
+  pub entered : HasBecome new part answer
+  pub others : (r : ℕ) → r ≢ part → mark_at new.marks r ≡ mark_at old.marks r
 
-abbrev pub answer_of : Entry → ℕ
-answer_of e = e.answer
+-- no mark is of a round to come, and no round is 0
+pub record IsMarked (marks : List Mark) (round : ℕ) : Type 0 where
+  pub some : 0 < round
+  pub past : (r : ℕ) → (mark_at marks r).round ≤ round
 
-abbrev pub entry_at : List Entry → ℕ → Entry
-entry_at entries k = slice_index_or entries k (record { part = 0; answer = 0 })
-
--- at the place of each part that was entered there stands an entry of that part
-pub record IsPlaced (places : List ℕ) (entries : List Entry) (r : ℕ) : Type 0 where
-  pub in_range : r < length places
-  pub entered : slice_index_or places r 0 < length entries
-  pub is : (entry_at entries (slice_index_or places r 0)).part ≡ r
-
-abbrev pub HasPlaces : List ℕ → List Entry → Type 0
-HasPlaces places entries = (k : ℕ) → k < length entries → IsPlaced places entries (entry_at entries k).part
-
--- places that stay where they were, though there may be more
-pub record IsWidened (old new : List ℕ) : Type 0 where
+-- the marks stay, though there may be more
+pub record IsWidened (old new : List Mark) : Type 0 where
   pub longer : length old ≤ length new
-  pub same : (k : ℕ) → k < length old → slice_index_or new k 0 ≡ slice_index_or old k 0
+  pub same : (r : ℕ) → mark_at new r ≡ mark_at old r

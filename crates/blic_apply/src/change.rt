@@ -13,7 +13,7 @@ pub enum Change {
 }
 
 impl Change {
-    /// The changed function, where the parts of the function need not be looked at.
+    /// The changed function, if the parts of the function need not be looked at.
     pub fn settled(self, store: &Store, r: Ref) -> Option<Ref>
         requires { IsRef store.now.nodes r }
         ensures some { IfSome result (IsChanged self store.now.nodes r) }
@@ -26,7 +26,7 @@ impl Change {
     }
 }
 
-// The other constant, where the function is constant.
+// The other constant, if the function is constant.
 fn constant_negated(r: Ref) -> Option<Ref>
     ensures some { IfSome result (λ s. r + s ≡ 1) }
     ensures none { IfNone result (2 ≤ r) }
@@ -40,7 +40,7 @@ fn constant_negated(r: Ref) -> Option<Ref>
     }
 }
 
-// The function with the level's bit fixed, where it decides at no level above that one.
+// The function with the level's bit fixed, if it decides at no level above that one.
 fn fixed_at_top(store: &Store, r: Ref, level: u32, bit: bool) -> Option<Ref>
     requires { IsRef store.now.nodes r }
     ensures some { IfSome result (IsChanged (Change.Fix level bit) store.now.nodes r) }

@@ -63,9 +63,9 @@ impl Op {
     }
 }
 
-/// The two functions combined, where `graph` lists their pairs. It takes time linear in the pairs.
+/// The two functions combined; `graph` lists their pairs. It takes time linear in the pairs.
 ///
-/// Refuses with `Full` exactly where the store's decisions and those of the answer's parts are together more than its
+/// Refuses with `Full` exactly if the store's decisions and those of the answer's parts are together more than its
 /// limit. After a refusal the store may hold some of the answer's parts; its functions are as before.
 pub fn combine(
     alloc: Global,

@@ -1,60 +1,64 @@
 // What the parts of a function became.
-ghost use Rattle.std.specs.Prelude.{◌≡◌, ◌≤◌, [], ◌∷◌, ◌++◌, length, map, IfNone, IfOk, IfSome, OnOk};
-ghost use Rattle.blic_apply.specs.PartTable.{HasBecome, IsNew, IsWidened, with_part};
+ghost use Rattle.std.specs.Prelude.{◌≡◌, ◌≤◌, ◌<◌, ℕ, length, IfNone, IfSome, OnOk};
+ghost use Rattle.blic_apply.specs.PartTable.{Enters, HasBecome, IsEmpty, IsNew, IsWidened, mark_at};
 
 use blic_basic::NoMem;
 use blic_store::Ref;
 use std::alloc::Global;
 use std::marker::Model;
+#[cfg(test)]
+use std::test::Fail;
 use std::vec::Vec;
 
-/// More parts than this are not entered.
-const MOST: usize = 4294967294;
+/// After this round the rounds begin anew.
+const LAST: u32 = 4294967295;
 
-/// A part of a function, and what it became.
+/// What a part became, and in which round.
 #[derive(Clone, Copy)]
-pub struct Entry {
-    pub part: Ref,
+pub struct Mark {
+    pub round: u32,
     pub answer: Ref,
 }
 
-/// The parts of a function that were changed, each entered once, and what each of them became. A
-/// part's place is kept by its number; a place says nothing where another part stands there, so that
-/// all parts are taken out at once.
+/// What the parts of a function became: a mark by the part's number. A mark of an earlier round says
+/// nothing, so that all parts are taken out at once.
 #[derive(Drop)]
 pub struct PartTable {
-    places: Vec<u32>,
-    entries: Vec<Entry>,
+    marks: Vec<Mark>,
+    round: u32,
 }
 
 impl Model for PartTable {
-    ghost use Rattle.std.specs.Prelude.{map};
-    ghost use Rattle.blic_apply.specs.PartTable.{HasPlaces, Table, answer_of, part_of};
+    ghost use Rattle.blic_apply.specs.PartTable.{IsMarked, Table};
 
     ghost Value = { Table };
 
-    ghost view = { λ t. record { parts = map part_of t.entries.items; answers = map answer_of t.entries.items } };
+    ghost view = { λ t. record { marks = t.marks.items; round = t.round } };
 
-    ghost invariant = { λ t. HasPlaces t.places.items t.entries.items };
+    ghost invariant = { λ t. IsMarked t.marks.items t.round };
 }
 
 impl PartTable {
     /// No parts.
     pub fn new(alloc: Global) -> PartTable
-        ensures { result ≡ record { parts = []; answers = [] } }
+        ensures { IsEmpty result }
     {
         PartTable {
-            places: Vec::new(alloc),
-            entries: Vec::new(alloc),
+            marks: Vec::new(alloc),
+            round: 1,
         }
     }
 
-    /// Takes out all parts, and has room for the places of refs below `refs`.
+    /// Takes out all parts, and has room for the marks of refs below `refs`.
     pub fn begin(&mut self, refs: usize) -> Result<(), NoMem>
-        ensures { OnOk result (self.new ≡ record { parts = []; answers = [] }) }
+        ensures { OnOk result (IsEmpty self.new) }
     {
-        self.entries.clear();
-        widen(&mut self.places, refs)
+        if self.round == LAST {
+            unmark(&mut self.marks);
+            self.round = 0;
+        }
+        self.round += 1;
+        widen(&mut self.marks, refs)
     }
 
     /// What the part became, if it was entered.
@@ -63,46 +67,70 @@ impl PartTable {
         ensures none { IfNone result (IsNew self.now part) }
     {
         let number = part.number() as usize;
-        if number >= self.places.len() {
+        if number >= self.marks.len() {
             return None;
         }
-        let place = self.places[number] as usize;
-        if place >= self.entries.len() {
-            return None;
+        let mark = self.marks[number];
+        if mark.round == self.round {
+            return Some(mark.answer);
         }
-        let entry = &self.entries[place];
-        if entry.part != part {
-            return None;
-        }
-        Some(entry.answer)
+        None
     }
 
     /// Enters a part and what it became.
     pub fn enter(&mut self, part: Ref, answer: Ref) -> Result<(), NoMem>
-        ensures { OnOk result (self.new ≡ with_part self.old part answer) }
+        ensures { OnOk result (Enters self.old self.new part answer) }
     {
-        let place = self.entries.len();
-        if place >= MOST || self.entries.reserve(1).is_err() {
-            return Err(NoMem);
-        }
         let number = part.number() as usize;
-        widen(&mut self.places, number + 1)?;
-        self.places[number] = place as u32;
-        self.entries.push_reserved(Entry { part, answer });
+        widen(&mut self.marks, number + 1)?;
+        self.marks[number] = Mark {
+            round: self.round,
+            answer,
+        };
         Ok(())
     }
 }
 
-// Has at least n places; those that there were stay.
-fn widen(places: &mut Vec<u32>, n: usize) -> Result<(), NoMem>
-    ensures room { OnOk result (n ≤ length places.new.items) }
-    ensures same { IsWidened places.old.items places.new.items }
+// Has at least n marks; those that there were stay, and the others are of no round.
+fn widen(marks: &mut Vec<Mark>, n: usize) -> Result<(), NoMem>
+    ensures room { OnOk result (n ≤ length marks.new.items) }
+    ensures same { IsWidened marks.old.items marks.new.items }
 {
-    if places.len() >= n {
+    if marks.len() >= n {
         return Ok(());
     }
-    match places.resize(n, 0) {
+    let none = Mark {
+        round: 0,
+        answer: Ref::FALSE,
+    };
+    match marks.resize(n, none) {
         Ok(()) => Ok(()),
         Err(_) => Err(NoMem),
     }
+}
+
+// Lets all marks be of no round.
+fn unmark(marks: &mut [Mark])
+    ensures { (r : ℕ) → (mark_at marks.new r).round ≡ 0 }
+{
+    for mark in marks.iter_mut() {
+        mark.round = 0;
+    }
+}
+
+#[test]
+fn a_part_of_the_last_round_is_new_in_the_first(rt: HostRuntime) -> Result<(), Fail> {
+    let mut table = PartTable::new(rt.alloc());
+    table.enter(Ref::TRUE, Ref::FALSE)?;
+    assert_eq!(rt; table.get(Ref::TRUE), Some(Ref::FALSE));
+    table.round = LAST;
+    assert_eq!(rt; table.get(Ref::TRUE), None);
+    table.enter(Ref::FALSE, Ref::TRUE)?;
+    table.begin(2)?;
+    assert_eq!(rt; table.round, 1);
+    assert_eq!(rt; table.get(Ref::TRUE), None);
+    assert_eq!(rt; table.get(Ref::FALSE), None);
+    table.enter(Ref::FALSE, Ref::TRUE)?;
+    assert_eq!(rt; table.get(Ref::FALSE), Some(Ref::TRUE));
+    Ok(())
 }

@@ -3,7 +3,7 @@ ghost use Rattle.std.specs.Prelude.{◌≡◌, ◌≤◌, [], Err, IfNone, IfOk,
 ghost use Rattle.blic_store.specs.Diagram.{IsRef, function, low_of};
 ghost use Rattle.blic_store.specs.Growth.{Adds, Answers, PassesLimit};
 ghost use Rattle.blic_apply.specs.Changing.{HasChanged, IsChanged, IsStep, IsUnsettled, changed};
-ghost use Rattle.blic_apply.specs.PartTable.{IsNew};
+ghost use Rattle.blic_apply.specs.PartTable.{IsEmpty, IsNew};
 
 use crate::change::Change;
 use crate::part_table::PartTable;
@@ -32,7 +32,7 @@ enum Step {
 
 /// The function changed, from its lowest parts up. It takes time linear in the parts that are not settled.
 ///
-/// Refuses with `Full` exactly where the store's decisions and those of the answer's parts are together more than its
+/// Refuses with `Full` exactly if the store's decisions and those of the answer's parts are together more than its
 /// limit.
 pub fn rewrite(
     made: &mut PartTable,
@@ -68,7 +68,7 @@ fn rewrite_parts(
 ) -> Result<Ref, StoreError>
     requires held { IsRef store.old.nodes a }
     requires unsettled { IsUnsettled change store.old.nodes a }
-    requires fresh { made.old ≡ record { parts = []; answers = [] } }
+    requires fresh { IsEmpty made.old }
     requires none { waiting.old.items ≡ [] }
     ensures ok { IfOk result (λ r. Answers (changed change (function store.old.nodes a)) store.old store.new r) }
     ensures full { result ≡ Err StoreError.Full → PassesLimit (changed change (function store.old.nodes a)) store.old }
@@ -156,8 +156,8 @@ fn answer(change: Change, store: &Store, made: &PartTable, r: Ref) -> Option<Ref
     ensures unsettled { IfNone result (IsUnsettled change store.now.nodes r) }
     ensures unmade { IfNone result (IsNew made.now r) }
 {
-    if let Some(answer) = change.settled(store, r) {
+    if let Some(answer) = made.get(r) {
         return Some(answer);
     }
-    made.get(r)
+    change.settled(store, r)
 }

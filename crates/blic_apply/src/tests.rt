@@ -5,7 +5,7 @@ use blic_store::{Ref, Store, StoreError};
 use std::alloc::Global;
 use std::test::Fail;
 
-// Makes the function, where its condition holds.
+// Makes the function, if its condition holds.
 fn made(store: &mut Store, level: u32, lo: Ref, hi: Ref) -> Result<Ref, Fail> {
     if !store.holds(lo) || !store.holds(hi) {
         return Err("a ref of another store")?;
@@ -56,7 +56,7 @@ fn table_of(store: &Store, r: Ref) -> Result<u32, Fail> {
     Ok(table)
 }
 
-// The operations, where their conditions hold.
+// The operations, if their conditions hold.
 fn combined(
     alloc: Global,
     store: &mut Store,

@@ -2,7 +2,6 @@ pub mod Candidates
 pub mod Canonical
 pub mod Chains
 pub mod Cofactors
-pub mod Finding
 pub mod Functions
 pub mod Levels
 pub mod Links
@@ -12,4 +11,5 @@ pub mod Parts
 pub mod Paths
 pub mod Pigeonhole
 pub mod Room
+pub mod Slots
 pub mod Under

@@ -29,11 +29,11 @@ level_of nodes zero = 2 ^ 32
 level_of nodes (suc zero) = 2 ^ 32
 level_of nodes (suc (suc k)) = (decision_at nodes k).level
 
--- where a ref that is no constant leads to, where its level's bit is 0
+-- where a ref that is no constant leads to, if its level's bit is 0
 abbrev pub low_of : List Decision → ℕ → ℕ
 low_of nodes r = (decision_at nodes (r - 2)).low
 
--- where it leads to, where its level's bit is 1
+-- where it leads to, if its level's bit is 1
 abbrev pub high_of : List Decision → ℕ → ℕ
 high_of nodes r = (decision_at nodes (r - 2)).high
 
@@ -41,6 +41,6 @@ high_of nodes r = (decision_at nodes (r - 2)).high
 abbrev pub IsSideOf : List Decision → ℕ → ℕ → Type 0
 IsSideOf nodes at r = (r ≡ low_of nodes at) ⊎ (r ≡ high_of nodes at)
 
--- the ref with the level's bit fixed, where the level is the ref's own; else the ref
+-- the ref with the level's bit fixed, if the level is the ref's own; else the ref
 abbrev pub cofactor : List Decision → ℕ → ℕ → Bool → ℕ
 cofactor nodes r level bit = cond (level_of nodes r == level) (cond bit (high_of nodes r) (low_of nodes r)) r

@@ -9,7 +9,7 @@ Function = (ℕ → Bool) → Bool
 abbrev pub Same : Function → Function → Type 0
 Same f g = (p : ℕ → Bool) → f p ≡ g p
 
--- `high` where the level's bit is set, else `low`
+-- `high` if the level's bit is set, else `low`
 abbrev pub choice : ℕ → Function → Function → Function
 choice level low high p = cond (p level) (high p) (low p)
 

@@ -3,6 +3,7 @@ pub mod Diagram
 pub mod Function
 pub mod Growth
 pub mod Numbers
+pub mod SlotTable
 pub mod Store
 pub mod Under
 pub mod UniqueTable

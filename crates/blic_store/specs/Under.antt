@@ -4,7 +4,7 @@ use Rattle.blic_store.specs.declared.decision.Decision.{Decision}
 use Rattle.blic_store.specs.Function.{Same, after}
 use Rattle.blic_store.specs.Diagram.{IsRef, function, level_of}
 
--- r is a with the topmost levels fixed to the bits; where it is no constant it decides at a level below them
+-- r is a with the topmost levels fixed to the bits; if it is no constant it decides at a level below them
 pub record IsUnder (nodes : List Decision) (a : ℕ) (bits : List Bool) (r : ℕ) : Type 0 where
   pub held : IsRef nodes r
   pub value : Same (function nodes r) (λ p. function nodes a (after bits p))

@@ -16,7 +16,7 @@ pub record IsLast (hashes : List ℕ) (n hash k : ℕ) : Type 0 where
 abbrev pub HasNone : List ℕ → ℕ → ℕ → Type 0
 HasNone hashes n hash = (j : ℕ) → j < n → hash_at hashes j ≢ hash
 
--- the bucket of a hash, where there are `size`: near hashes have near buckets
+-- the bucket of a hash, if there are `size`: near hashes have near buckets
 unfoldable pub bucket : ℕ → ℕ → ℕ
 bucket size hash = bit_and hash (size - 1)
 

@@ -2,8 +2,8 @@
 
 use crate::reference::Ref;
 
-/// An inner node of a diagram: the function of `low` where the level's bit is 0, and that of `high`
-/// where it is 1.
+/// An inner node of a diagram: the function of `low` if the level's bit is 0, and that of `high`
+/// if it is 1 (a node of a BDD).
 #[derive(Clone, Copy, Debug, PartialEq, Eq)]
 pub struct Decision {
     pub level: u32,

@@ -17,7 +17,7 @@ pub fn same_law(store: &Store, a: Ref, b: Ref)
     store.canonical_law();
 }
 
-/// Where a function passes the limit, no store has it within the limit: each list that has the
+/// If a function passes the limit, no store has it within the limit: each list that has the
 /// function is at least as long as each that adds parts of it alone.
 pub fn full_law()
     ensures { (f : Function) (old new : Diagrams) (r : ℕ) → Answers f old new r

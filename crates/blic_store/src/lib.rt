@@ -4,6 +4,7 @@
 mod decision;
 mod laws;
 mod reference;
+mod slot_table;
 mod store;
 mod unique_table;
 

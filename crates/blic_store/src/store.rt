@@ -8,7 +8,7 @@ ghost use Rattle.blic_store.specs.Store.{hash_of};
 
 use crate::decision::Decision;
 use crate::reference::Ref;
-use crate::unique_table::UniqueTable;
+use crate::slot_table::{SlotTable, Wanted};
 use blic_basic::NoMem;
 use std::alloc::Global;
 use std::marker::Model;
@@ -34,7 +34,7 @@ pub enum StoreError {
 #[derive(Drop)]
 pub struct Store {
     nodes: Vec<Decision>,
-    table: UniqueTable,
+    table: SlotTable,
     limit: u32,
 }
 
@@ -56,7 +56,7 @@ impl Store {
     {
         Ok(Store {
             nodes: Vec::new(alloc),
-            table: UniqueTable::new(alloc)?,
+            table: SlotTable::new(alloc)?,
             limit,
         })
     }
@@ -114,7 +114,7 @@ impl Store {
         self.nodes[r.number() as usize - 2].high
     }
 
-    /// The function with the level's bit fixed, where the level is the one at which it decides; else
+    /// The function with the level's bit fixed (a cofactor), if the level is the one at which it decides; else
     /// the function itself.
     pub fn cofactor(&self, r: Ref, level: u32, bit: bool) -> Ref
         requires { IsRef self.now.nodes r }
@@ -126,11 +126,11 @@ impl Store {
         if bit { self.high(r) } else { self.low(r) }
     }
 
-    /// The function that is `lo` where the level's bit is 0 and `hi` where it is 1: the ref that
+    /// The function that is `lo` if the level's bit is 0 and `hi` if it is 1: the ref that
     /// stands for it already, if there is one, and else a new one. The refs made before keep their
     /// functions. It takes constant time, but for the growth of the store's tables.
     ///
-    /// Refuses with `Full` exactly where the function is new and `limit` decisions are held: no
+    /// Refuses with `Full` exactly if the function is new and `limit` decisions are held: no
     /// store within the limit has it (`full_law`). A refusal leaves the store as it was.
     pub fn make(&mut self, level: u32, lo: Ref, hi: Ref) -> Result<Ref, StoreError>
         requires lo_held { IsRef self.old.nodes lo }
@@ -177,14 +177,11 @@ impl Store {
         ensures equal { IfSome result (λ k. decision_at self.now.nodes k ≡ decision.now) }
         ensures none { IfNone result ((k : ℕ) → k < length self.now.nodes → decision_at self.now.nodes k ≢ decision.now) }
     {
-        let mut candidate = self.table.newest(hash(decision));
-        while let Some(k) = candidate {
-            if self.nodes[k as usize] == *decision {
-                return Some(k);
-            }
-            candidate = self.table.older(k);
-        }
-        None
+        let wanted = Among {
+            nodes: &self.nodes,
+            decision: *decision,
+        };
+        self.table.find(hash(decision), &wanted)
     }
 
     // Holds the decision, which is new, too.
@@ -210,16 +207,37 @@ impl Store {
     }
 }
 
-// The hash of a decision. Decisions that are made one after another have children that were, and so
-// their hashes are near; blocks of levels and of older children keep them apart where many decisions
-// share a child.
+// A decision that is looked for among others.
+#[derive(Clone, Copy)]
+struct Among<'a> {
+    nodes: &'a [Decision],
+    decision: Decision,
+}
+
+impl Wanted for Among<'_> {
+    ghost count = { λ w. length w.nodes.now };
+
+    ghost is = { λ w k. decision_at w.nodes.now k ≡ w.decision };
+
+    fn is_at(&self, k: u32) -> bool {
+        self.nodes[k as usize] == self.decision
+    }
+}
+
+// The hash of a decision: a slot in a line of 16, and six bits above it. Decisions that are made one
+// after another have children that were, and the line is chosen by the younger one; the other bits mix
+// all three numbers.
 fn hash(decision: &Decision) -> u32
     ensures { result ≡ hash_of decision.now }
 {
     let level = u64::from(decision.level);
     let low = u64::from(decision.low.number());
     let high = u64::from(decision.high.number());
-    let near = low.max(high) * 8 + (level * 13 + low * 11 + high * 7) % 8;
-    let apart = low.min(high) / 64 * 663608944 + level / 64 * 625341584;
-    ((near + apart) % 4294967296) as u32
+    let sum = level * 2246822519 % 4294967296
+        + low * 2654435761 % 4294967296
+        + high * 3266489917 % 4294967296;
+    let mixed = sum % 4294967296;
+    let line = low.max(high) / 8 + mixed / 1048576 % 4;
+    let slot = (line * 16 + mixed / 4194304 % 16) % 67108864;
+    (slot + mixed / 67108864 * 67108864) as u32
 }

@@ -3,7 +3,7 @@ use super::*;
 use std::test::Fail;
 use std::vec::Vec;
 
-// Makes the function, where its condition holds.
+// Makes the function, if its condition holds.
 fn made(store: &mut Store, level: u32, lo: Ref, hi: Ref) -> Result<Result<Ref, StoreError>, Fail> {
     if !store.holds(lo) || !store.holds(hi) {
         return Err("a ref of another store")?;

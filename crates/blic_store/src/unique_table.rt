@@ -119,7 +119,7 @@ fn last(heads: &[u32], links: &[Link], from: u32, hash: u32) -> Option<u32>
     None
 }
 
-// Puts number n into its chain, where those before it are in theirs.
+// Puts number n into its chain, if those before it are in theirs.
 fn chain(heads: &mut [u32], links: &mut [Link], n: usize)
     requires size { IsSize (length heads.old) }
     requires chains { HasChains heads.old links.old n }

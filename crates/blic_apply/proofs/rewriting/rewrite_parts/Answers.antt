@@ -1,15 +1,15 @@
-use Rattle.std.proofs.Common.{arith, ◌≡◌, ◌++◌, ◌∷◌, [], length, map, ◌∙◌, ap, subst, sym, refl, inl, inr}
+use Rattle.std.proofs.Common.{arith, ◌≡◌, ◌+◌, ◌++◌, ◌∷◌, [], map, ◌∙◌, ap, subst, sym, refl, inl, inr}
 use Rattle.std.proofs.lemmas.Result.{err_from_is_err_and}
 use Rattle.std.proofs.lemmas.List.{nil_from_length}
 use Rattle.blic_store.proofs.Made.{on_ok}
-use Rattle.blic_store.proofs.Paths.{side_before, smaller}
+use Rattle.blic_store.proofs.Paths.{side_before}
 use Rattle.blic_apply.specs.Changing.{IsStep}
-use Rattle.blic_apply.specs.PartTable.{with_part}
+use Rattle.blic_apply.specs.PartTable.{Enters}
 use Rattle.blic_apply.specs.declared.rewriting.Waiting.{Waiting}
 use Rattle.blic_apply.proofs.Changing.{IsReady, above_low, above_high}
 use Rattle.blic_apply.proofs.Waits.{AreWaiting, IsResumed, path_of, path_push, resumed, waiting_part, waits_none, waits_push}
 use Rattle.blic_apply.proofs.Walk.{IsWalk, in_hand, is_ready, has_changed, walk_first, walk_down, walk_adds, walk_answers}
-use Rattle.blic_apply.proofs.Table.{few, if_ok, longer}
+use Rattle.blic_apply.proofs.Table.{fewer, if_ok, missing, missing_less}
 use Rattle.blic_apply.proofs.rewriting.rewrite_parts.Goals as goal
 
 pub up-init : goal.up-init
@@ -154,7 +154,7 @@ pub second_step-step-requires-clause-held : goal.second_step-step-requires-claus
 second_step-step-requires-clause-held c =
     let ready : IsReady c.args.change c.up.store.nodes c.up.at c.in-Ready.new_low c.in-Ready.new_high =
     is_ready c.args.change c.args.store.now.nodes c.up.store.nodes c.args.a (map waiting_part c.up.waiting.items) c.up.at c.in-Ready.new_low c.in-Ready.new_high c.up.made c.up.invariant.walk (subst (IsStep c.args.change c.up.store.nodes c.up.made c.up.at) c.in-Ready.is c.up.invariant.step) in
-    let entered : c.enter.new.self ≡ with_part c.up.made c.up.at c.in_ok-answer-in-Ready.answer = on_ok c.enter.result (c.enter.new.self ≡ with_part c.up.made c.up.at c.in_ok-answer-in-Ready.answer) c.if-is_err-3.ensures.value c.enter.ensures in
+    let entered : Enters c.up.made c.enter.new.self c.up.at c.in_ok-answer-in-Ready.answer = on_ok c.enter.result (Enters c.up.made c.enter.new.self c.up.at c.in_ok-answer-in-Ready.answer) c.if-is_err-3.ensures.value c.enter.ensures in
     let next : IsResumed c.args.change c.args.store.now.nodes c.make.new.self.nodes c.args.a c.pop.new.self.items (Waiting.Low c.in-Low-above.part) c.enter.new.self c.in_ok-answer-in-Ready.answer =
     subst (λ f. IsResumed c.args.change c.args.store.now.nodes c.make.new.self.nodes c.args.a c.pop.new.self.items f c.enter.new.self c.in_ok-answer-in-Ready.answer) c.in-Low-above.is
     (resumed c.args.change c.args.store.now.nodes c.up.store c.make.new.self c.args.a c.up.waiting.items c.pop.new.self.items c.in-Some.above c.up.at c.level.result c.in-Ready.new_low c.in-Ready.new_high c.in_ok-answer-in-Ready.answer c.up.made c.enter.new.self
@@ -165,7 +165,7 @@ pub second_step-step-requires-clause-inner : goal.second_step-step-requires-clau
 second_step-step-requires-clause-inner c =
     let ready : IsReady c.args.change c.up.store.nodes c.up.at c.in-Ready.new_low c.in-Ready.new_high =
     is_ready c.args.change c.args.store.now.nodes c.up.store.nodes c.args.a (map waiting_part c.up.waiting.items) c.up.at c.in-Ready.new_low c.in-Ready.new_high c.up.made c.up.invariant.walk (subst (IsStep c.args.change c.up.store.nodes c.up.made c.up.at) c.in-Ready.is c.up.invariant.step) in
-    let entered : c.enter.new.self ≡ with_part c.up.made c.up.at c.in_ok-answer-in-Ready.answer = on_ok c.enter.result (c.enter.new.self ≡ with_part c.up.made c.up.at c.in_ok-answer-in-Ready.answer) c.if-is_err-3.ensures.value c.enter.ensures in
+    let entered : Enters c.up.made c.enter.new.self c.up.at c.in_ok-answer-in-Ready.answer = on_ok c.enter.result (Enters c.up.made c.enter.new.self c.up.at c.in_ok-answer-in-Ready.answer) c.if-is_err-3.ensures.value c.enter.ensures in
     let next : IsResumed c.args.change c.args.store.now.nodes c.make.new.self.nodes c.args.a c.pop.new.self.items (Waiting.Low c.in-Low-above.part) c.enter.new.self c.in_ok-answer-in-Ready.answer =
     subst (λ f. IsResumed c.args.change c.args.store.now.nodes c.make.new.self.nodes c.args.a c.pop.new.self.items f c.enter.new.self c.in_ok-answer-in-Ready.answer) c.in-Low-above.is
     (resumed c.args.change c.args.store.now.nodes c.up.store c.make.new.self c.args.a c.up.waiting.items c.pop.new.self.items c.in-Some.above c.up.at c.level.result c.in-Ready.new_low c.in-Ready.new_high c.in_ok-answer-in-Ready.answer c.up.made c.enter.new.self
@@ -176,7 +176,7 @@ pub second_step-step-requires-clause-made : goal.second_step-step-requires-claus
 second_step-step-requires-clause-made c =
     let ready : IsReady c.args.change c.up.store.nodes c.up.at c.in-Ready.new_low c.in-Ready.new_high =
     is_ready c.args.change c.args.store.now.nodes c.up.store.nodes c.args.a (map waiting_part c.up.waiting.items) c.up.at c.in-Ready.new_low c.in-Ready.new_high c.up.made c.up.invariant.walk (subst (IsStep c.args.change c.up.store.nodes c.up.made c.up.at) c.in-Ready.is c.up.invariant.step) in
-    let entered : c.enter.new.self ≡ with_part c.up.made c.up.at c.in_ok-answer-in-Ready.answer = on_ok c.enter.result (c.enter.new.self ≡ with_part c.up.made c.up.at c.in_ok-answer-in-Ready.answer) c.if-is_err-3.ensures.value c.enter.ensures in
+    let entered : Enters c.up.made c.enter.new.self c.up.at c.in_ok-answer-in-Ready.answer = on_ok c.enter.result (Enters c.up.made c.enter.new.self c.up.at c.in_ok-answer-in-Ready.answer) c.if-is_err-3.ensures.value c.enter.ensures in
     let next : IsResumed c.args.change c.args.store.now.nodes c.make.new.self.nodes c.args.a c.pop.new.self.items (Waiting.Low c.in-Low-above.part) c.enter.new.self c.in_ok-answer-in-Ready.answer =
     subst (λ f. IsResumed c.args.change c.args.store.now.nodes c.make.new.self.nodes c.args.a c.pop.new.self.items f c.enter.new.self c.in_ok-answer-in-Ready.answer) c.in-Low-above.is
     (resumed c.args.change c.args.store.now.nodes c.up.store c.make.new.self c.args.a c.up.waiting.items c.pop.new.self.items c.in-Some.above c.up.at c.level.result c.in-Ready.new_low c.in-Ready.new_high c.in_ok-answer-in-Ready.answer c.up.made c.enter.new.self
@@ -187,7 +187,7 @@ pub second_step-step-requires-clause-low : goal.second_step-step-requires-clause
 second_step-step-requires-clause-low c =
     let ready : IsReady c.args.change c.up.store.nodes c.up.at c.in-Ready.new_low c.in-Ready.new_high =
     is_ready c.args.change c.args.store.now.nodes c.up.store.nodes c.args.a (map waiting_part c.up.waiting.items) c.up.at c.in-Ready.new_low c.in-Ready.new_high c.up.made c.up.invariant.walk (subst (IsStep c.args.change c.up.store.nodes c.up.made c.up.at) c.in-Ready.is c.up.invariant.step) in
-    let entered : c.enter.new.self ≡ with_part c.up.made c.up.at c.in_ok-answer-in-Ready.answer = on_ok c.enter.result (c.enter.new.self ≡ with_part c.up.made c.up.at c.in_ok-answer-in-Ready.answer) c.if-is_err-3.ensures.value c.enter.ensures in
+    let entered : Enters c.up.made c.enter.new.self c.up.at c.in_ok-answer-in-Ready.answer = on_ok c.enter.result (Enters c.up.made c.enter.new.self c.up.at c.in_ok-answer-in-Ready.answer) c.if-is_err-3.ensures.value c.enter.ensures in
     let next : IsResumed c.args.change c.args.store.now.nodes c.make.new.self.nodes c.args.a c.pop.new.self.items (Waiting.Low c.in-Low-above.part) c.enter.new.self c.in_ok-answer-in-Ready.answer =
     subst (λ f. IsResumed c.args.change c.args.store.now.nodes c.make.new.self.nodes c.args.a c.pop.new.self.items f c.enter.new.self c.in_ok-answer-in-Ready.answer) c.in-Low-above.is
     (resumed c.args.change c.args.store.now.nodes c.up.store c.make.new.self c.args.a c.up.waiting.items c.pop.new.self.items c.in-Some.above c.up.at c.level.result c.in-Ready.new_low c.in-Ready.new_high c.in_ok-answer-in-Ready.answer c.up.made c.enter.new.self
@@ -198,21 +198,22 @@ pub up-smaller-in-Low-above : goal.up-smaller-in-Low-above
 up-smaller-in-Low-above c =
     let ready : IsReady c.args.change c.up.store.nodes c.up.at c.in-Ready.new_low c.in-Ready.new_high =
     is_ready c.args.change c.args.store.now.nodes c.up.store.nodes c.args.a (map waiting_part c.up.waiting.items) c.up.at c.in-Ready.new_low c.in-Ready.new_high c.up.made c.up.invariant.walk (subst (IsStep c.args.change c.up.store.nodes c.up.made c.up.at) c.in-Ready.is c.up.invariant.step) in
-    let entered : c.enter.new.self ≡ with_part c.up.made c.up.at c.in_ok-answer-in-Ready.answer = on_ok c.enter.result (c.enter.new.self ≡ with_part c.up.made c.up.at c.in_ok-answer-in-Ready.answer) c.if-is_err-3.ensures.value c.enter.ensures in
+    let entered : Enters c.up.made c.enter.new.self c.up.at c.in_ok-answer-in-Ready.answer = on_ok c.enter.result (Enters c.up.made c.enter.new.self c.up.at c.in_ok-answer-in-Ready.answer) c.if-is_err-3.ensures.value c.enter.ensures in
     let next : IsResumed c.args.change c.args.store.now.nodes c.make.new.self.nodes c.args.a c.pop.new.self.items (Waiting.Low c.in-Low-above.part) c.enter.new.self c.in_ok-answer-in-Ready.answer =
     subst (λ f. IsResumed c.args.change c.args.store.now.nodes c.make.new.self.nodes c.args.a c.pop.new.self.items f c.enter.new.self c.in_ok-answer-in-Ready.answer) c.in-Low-above.is
     (resumed c.args.change c.args.store.now.nodes c.up.store c.make.new.self c.args.a c.up.waiting.items c.pop.new.self.items c.in-Some.above c.up.at c.level.result c.in-Ready.new_low c.in-Ready.new_high c.in_ok-answer-in-Ready.answer c.up.made c.enter.new.self
     c.up.invariant.walk c.up.invariant.waits c.in-Some.ensures.items c.level.ensures ready c.in_ok-answer-in-Ready.ensures.ok entered) in
-    smaller c.args.a (length c.up.made.parts) (length c.enter.new.self.parts) c.up.at c.in-Low-above.part
-    (longer c.up.made c.enter.new.self c.up.at c.in_ok-answer-in-Ready.answer entered)
-    (few c.enter.new.self c.args.a next.walk.entered (λ r s e. (next.walk.made r s e).in_range))
+    let here = in_hand c.args.change c.args.store.now.nodes c.up.store.nodes c.args.a (map waiting_part c.up.waiting.items) c.up.at c.up.made c.up.invariant.walk in
+    let at_most = here.in_range in
+    fewer c.args.a (missing c.up.made (c.args.a + 1)) (missing c.enter.new.self (c.args.a + 1)) c.up.at c.in-Low-above.part
+    (missing_less c.up.made c.enter.new.self c.up.at c.in_ok-answer-in-Ready.answer (c.args.a + 1) entered here.unmade (omega arith))
     (in_hand c.args.change c.args.store.now.nodes c.make.new.self.nodes c.args.a (map waiting_part c.pop.new.self.items) c.in-Low-above.part c.enter.new.self next.walk).in_range
 
 pub up-preserved-in-Low-above : goal.up-preserved-in-Low-above
 up-preserved-in-Low-above c =
     let ready : IsReady c.args.change c.up.store.nodes c.up.at c.in-Ready.new_low c.in-Ready.new_high =
     is_ready c.args.change c.args.store.now.nodes c.up.store.nodes c.args.a (map waiting_part c.up.waiting.items) c.up.at c.in-Ready.new_low c.in-Ready.new_high c.up.made c.up.invariant.walk (subst (IsStep c.args.change c.up.store.nodes c.up.made c.up.at) c.in-Ready.is c.up.invariant.step) in
-    let entered : c.enter.new.self ≡ with_part c.up.made c.up.at c.in_ok-answer-in-Ready.answer = on_ok c.enter.result (c.enter.new.self ≡ with_part c.up.made c.up.at c.in_ok-answer-in-Ready.answer) c.if-is_err-3.ensures.value c.enter.ensures in
+    let entered : Enters c.up.made c.enter.new.self c.up.at c.in_ok-answer-in-Ready.answer = on_ok c.enter.result (Enters c.up.made c.enter.new.self c.up.at c.in_ok-answer-in-Ready.answer) c.if-is_err-3.ensures.value c.enter.ensures in
     let next : IsResumed c.args.change c.args.store.now.nodes c.make.new.self.nodes c.args.a c.pop.new.self.items (Waiting.Low c.in-Low-above.part) c.enter.new.self c.in_ok-answer-in-Ready.answer =
     subst (λ f. IsResumed c.args.change c.args.store.now.nodes c.make.new.self.nodes c.args.a c.pop.new.self.items f c.enter.new.self c.in_ok-answer-in-Ready.answer) c.in-Low-above.is
     (resumed c.args.change c.args.store.now.nodes c.up.store c.make.new.self c.args.a c.up.waiting.items c.pop.new.self.items c.in-Some.above c.up.at c.level.result c.in-Ready.new_low c.in-Ready.new_high c.in_ok-answer-in-Ready.answer c.up.made c.enter.new.self
@@ -223,21 +224,22 @@ pub up-smaller : goal.up-smaller
 up-smaller c =
     let ready : IsReady c.args.change c.up.store.nodes c.up.at c.in-Ready.new_low c.in-Ready.new_high =
     is_ready c.args.change c.args.store.now.nodes c.up.store.nodes c.args.a (map waiting_part c.up.waiting.items) c.up.at c.in-Ready.new_low c.in-Ready.new_high c.up.made c.up.invariant.walk (subst (IsStep c.args.change c.up.store.nodes c.up.made c.up.at) c.in-Ready.is c.up.invariant.step) in
-    let entered : c.enter.new.self ≡ with_part c.up.made c.up.at c.in_ok-answer-in-Ready.answer = on_ok c.enter.result (c.enter.new.self ≡ with_part c.up.made c.up.at c.in_ok-answer-in-Ready.answer) c.if-is_err-3.ensures.value c.enter.ensures in
+    let entered : Enters c.up.made c.enter.new.self c.up.at c.in_ok-answer-in-Ready.answer = on_ok c.enter.result (Enters c.up.made c.enter.new.self c.up.at c.in_ok-answer-in-Ready.answer) c.if-is_err-3.ensures.value c.enter.ensures in
     let next : IsResumed c.args.change c.args.store.now.nodes c.make.new.self.nodes c.args.a c.pop.new.self.items (Waiting.High c.in-High-above.part c.in-High-above.low) c.enter.new.self c.in_ok-answer-in-Ready.answer =
     subst (λ f. IsResumed c.args.change c.args.store.now.nodes c.make.new.self.nodes c.args.a c.pop.new.self.items f c.enter.new.self c.in_ok-answer-in-Ready.answer) c.in-High-above.is
     (resumed c.args.change c.args.store.now.nodes c.up.store c.make.new.self c.args.a c.up.waiting.items c.pop.new.self.items c.in-Some.above c.up.at c.level.result c.in-Ready.new_low c.in-Ready.new_high c.in_ok-answer-in-Ready.answer c.up.made c.enter.new.self
     c.up.invariant.walk c.up.invariant.waits c.in-Some.ensures.items c.level.ensures ready c.in_ok-answer-in-Ready.ensures.ok entered) in
-    smaller c.args.a (length c.up.made.parts) (length c.enter.new.self.parts) c.up.at c.in-High-above.part
-    (longer c.up.made c.enter.new.self c.up.at c.in_ok-answer-in-Ready.answer entered)
-    (few c.enter.new.self c.args.a next.walk.entered (λ r s e. (next.walk.made r s e).in_range))
+    let here = in_hand c.args.change c.args.store.now.nodes c.up.store.nodes c.args.a (map waiting_part c.up.waiting.items) c.up.at c.up.made c.up.invariant.walk in
+    let at_most = here.in_range in
+    fewer c.args.a (missing c.up.made (c.args.a + 1)) (missing c.enter.new.self (c.args.a + 1)) c.up.at c.in-High-above.part
+    (missing_less c.up.made c.enter.new.self c.up.at c.in_ok-answer-in-Ready.answer (c.args.a + 1) entered here.unmade (omega arith))
     (in_hand c.args.change c.args.store.now.nodes c.make.new.self.nodes c.args.a (map waiting_part c.pop.new.self.items) c.in-High-above.part c.enter.new.self next.walk).in_range
 
 pub up-preserved : goal.up-preserved
 up-preserved c =
     let ready : IsReady c.args.change c.up.store.nodes c.up.at c.in-Ready.new_low c.in-Ready.new_high =
     is_ready c.args.change c.args.store.now.nodes c.up.store.nodes c.args.a (map waiting_part c.up.waiting.items) c.up.at c.in-Ready.new_low c.in-Ready.new_high c.up.made c.up.invariant.walk (subst (IsStep c.args.change c.up.store.nodes c.up.made c.up.at) c.in-Ready.is c.up.invariant.step) in
-    let entered : c.enter.new.self ≡ with_part c.up.made c.up.at c.in_ok-answer-in-Ready.answer = on_ok c.enter.result (c.enter.new.self ≡ with_part c.up.made c.up.at c.in_ok-answer-in-Ready.answer) c.if-is_err-3.ensures.value c.enter.ensures in
+    let entered : Enters c.up.made c.enter.new.self c.up.at c.in_ok-answer-in-Ready.answer = on_ok c.enter.result (Enters c.up.made c.enter.new.self c.up.at c.in_ok-answer-in-Ready.answer) c.if-is_err-3.ensures.value c.enter.ensures in
     let next : IsResumed c.args.change c.args.store.now.nodes c.make.new.self.nodes c.args.a c.pop.new.self.items (Waiting.High c.in-High-above.part c.in-High-above.low) c.enter.new.self c.in_ok-answer-in-Ready.answer =
     subst (λ f. IsResumed c.args.change c.args.store.now.nodes c.make.new.self.nodes c.args.a c.pop.new.self.items f c.enter.new.self c.in_ok-answer-in-Ready.answer) c.in-High-above.is
     (resumed c.args.change c.args.store.now.nodes c.up.store c.make.new.self c.args.a c.up.waiting.items c.pop.new.self.items c.in-Some.above c.up.at c.level.result c.in-Ready.new_low c.in-Ready.new_high c.in_ok-answer-in-Ready.answer c.up.made c.enter.new.self

@@ -1,5 +1,6 @@
-use Rattle.std.proofs.Common.{◌≡◌, ◌+◌, ◌-◌, ◌*◌, length}
+use Rattle.std.proofs.Common.{◌≡◌, ◌+◌, ◌*◌}
 use Rattle.blic_apply.specs.Changing.{IsStep}
+use Rattle.blic_apply.proofs.Table.{missing}
 use Rattle.blic_apply.proofs.Waits.{AreWaiting, path_of}
 use Rattle.blic_apply.proofs.Walk.{IsWalk}
 use Rattle.blic_apply.proofs.rewriting.rewrite_parts.Given as goal
@@ -13,4 +14,4 @@ invariant-up l = record {
 }
 
 abbrev pub decreases-up : goal.decreases-up
-decreases-up l = (l.fn.a + 1 - length l.made.parts) * (l.fn.a + 1) + l.at
+decreases-up l = missing l.made (l.fn.a + 1) * (l.fn.a + 1) + l.at
