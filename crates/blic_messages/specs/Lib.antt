@@ -1,4 +1,10 @@
+pub mod AskStates
+pub mod Decoding
+pub mod FrontLaws
 pub mod Frames
+pub mod Fronts
+pub mod Grammar
 pub mod Parts
 pub mod Reading
 pub mod Replies
+pub mod ReplyStates

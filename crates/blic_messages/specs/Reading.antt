@@ -1,8 +1,10 @@
--- What a whole frame says as a reply.
+-- Which messages have a frame, and what a whole frame says as a reply.
 use Rattle.std.specs.Prelude.{ℕ, ◌≡◌, ◌<◌, ◌≤◌, ◌^◌, List, length, All, Option, Some, None}
 use Rattle.blic_field.specs.Field.{modulus}
 use Rattle.blic_field.specs.Quadratic.{HasElements}
 use Rattle.blic_messages.specs.declared.ask.Hello.{Hello}
+use Rattle.blic_messages.specs.declared.ask.Ask.{Ask}
+use Rattle.blic_messages.specs.declared.ask.Ask.TheVariants as asks
 use Rattle.blic_messages.specs.declared.reply.Refusal.{Refusal}
 use Rattle.blic_messages.specs.declared.reply.Refusal.TheVariants as refusals
 use Rattle.blic_messages.specs.Replies.{Said, Answer, Polys, Values, Refused}
@@ -14,6 +16,13 @@ pub record IsHello (h : Hello) : Type 0 where
   pub circuit : h.circuit < 2 ^ 16
   pub order : h.order < 2 ^ 16
   pub digest : (length h.digest ≡ 32) × All (λ b. b < 256) h.digest
+
+-- a draw is of an element
+abbrev pub IsAsk : Ask → Type 0
+IsAsk (asks.Hello h) = IsHello h
+IsAsk asks.Go = Unit {0}
+IsAsk (asks.Draw e) = e < modulus
+IsAsk asks.Bye = Unit {0}
 
 abbrev pub IsRefusal : Refusal → Type 0
 IsRefusal refusals.OutOfTurn = Unit {0}

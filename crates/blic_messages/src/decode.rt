@@ -3,6 +3,7 @@ ghost use Rattle.std.specs.Prelude.{◌≡◌, ◌≤◌, ◌+◌, ◌*◌, leng
 ghost use Rattle.byteorder.specs.Endian.{big_bytes};
 ghost use Rattle.blic_field.specs.Quadratic.{HasElements};
 ghost use Rattle.blic_messages.specs.Frames.{framed, hello_body, poly_body};
+ghost use Rattle.blic_messages.specs.Fronts.{hello_in};
 ghost use Rattle.blic_messages.specs.Parts.{IsElement, IsSpelling};
 ghost use Rattle.blic_messages.specs.Replies.{said};
 ghost use Rattle.blic_messages.specs.Reading.{IsHello, Reads};
@@ -13,8 +14,8 @@ use blic_field::Fe;
 use blic_poly2::Poly2;
 use byteorder::{BigEndian, ByteOrder};
 
-/// The reply that a whole frame says, where it is the frame of one. Its polynomials go to the front
-/// of `polys`, which has room for as many as the frame's length allows.
+/// The reply that a whole frame says, or `None` if it is the frame of none. Its polynomials go to the
+/// beginning of `polys`, which has room for as many as the frame's length allows.
 pub fn decode_reply<'a>(frame: &[u8], polys: &'a mut [Poly2]) -> Option<Reply<'a>>
     requires { length frame.now ≤ 28 + 24 * length polys.old }
     ensures { Reads frame.now (option_map said result) }
@@ -87,7 +88,7 @@ fn read_element(bytes: &[u8]) -> Option<Fe>
     Fe::from_u64(BigEndian::read_u64(bytes))
 }
 
-fn read_poly(bytes: &[u8]) -> Option<Poly2>
+pub(crate) fn read_poly(bytes: &[u8]) -> Option<Poly2>
     requires { 24 ≤ length bytes.now }
     ensures { IsSpelling HasElements poly_body (take 24 bytes.now) result }
 {
@@ -104,12 +105,20 @@ fn read_hello(bytes: &[u8]) -> Option<Hello>
     if bytes.len() != 38 {
         return None;
     }
+    Some(hello_of(bytes))
+}
+
+// The hello of a whole body.
+pub(crate) fn hello_of(body: &[u8]) -> Hello
+    requires { length body.now ≡ 38 }
+    ensures { result ≡ hello_in body.now }
+{
     let mut digest = [0; 32];
-    digest.copy_from_slice(&bytes[6..]);
-    Some(Hello {
-        wire: BigEndian::read_u16(bytes),
-        circuit: BigEndian::read_u16(&bytes[2..]),
-        order: BigEndian::read_u16(&bytes[4..]),
+    digest.copy_from_slice(&body[6..]);
+    Hello {
+        wire: BigEndian::read_u16(body),
+        circuit: BigEndian::read_u16(&body[2..]),
+        order: BigEndian::read_u16(&body[4..]),
         digest,
-    })
+    }
 }

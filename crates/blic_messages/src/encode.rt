@@ -21,7 +21,7 @@ pub fn ask_len(ask: &Ask) -> usize
     }
 }
 
-/// Writes an ask's frame at the front of `out`, and answers its length.
+/// Writes an ask's frame at the beginning of `out`, and answers its length.
 pub fn encode_ask(ask: &Ask, out: &mut [u8]) -> usize
     requires { length (ask_spelling ask.now) ≤ length out.old }
     ensures written { out.new ≡ ask_spelling ask.now ++ drop result out.old }
@@ -90,8 +90,8 @@ pub fn reply_len(reply: &Reply<'_>) -> usize
     }
 }
 
-/// Writes a reply's frame at the front of `out`, and answers its length. The frame of polynomials is
-/// one of the format's where there are from 1 to 65,536 of them.
+/// Writes a reply's frame at the beginning of `out`, and answers its length. A frame of polynomials
+/// is one of the format if there are from 1 to 65,536 of them.
 pub fn encode_reply(reply: &Reply<'_>, out: &mut [u8]) -> usize
     requires few { polynomials_in (said reply.now) ≤ 65536 }
     requires room { length (reply_spelling (said reply.now)) ≤ length out.old }

@@ -10,7 +10,7 @@ pub enum Refusal {
     OutOfTurn,
     /// Every reply of the conversation was given.
     NothingLeft,
-    /// Something else is served: what it is.
+    /// Something else is served, which this says.
     NotServed(Hello),
     /// The bytes are no frame.
     Broken,

@@ -2,7 +2,8 @@
 ghost use Rattle.std.specs.Prelude.{◌≤◌, ◌+◌, ◌*◌, length};
 
 use crate::{
-    Ask, Hello, Refusal, Reply, ask_len, decode_reply, encode_ask, encode_reply, reply_len,
+    Ask, AskDecoder, Fed, Hello, Refusal, Reply, ReplyDecoder, ask_len, decode_reply, encode_ask,
+    encode_reply, reply_len,
 };
 use blic_field::Fe;
 use blic_poly2::Poly2;
@@ -151,4 +152,159 @@ fn frames_are_read_as_replies(rt: HostRuntime) {
     assert_eq!(rt; read(&[0, 0, 0, 1, 129, 2], &mut polys), Told::Nothing);
     assert_eq!(rt; read(&[0, 0, 0, 2, 129, 1], &mut polys), Told::Nothing);
     assert_eq!(rt; read(&[], &mut polys), Told::Nothing);
+}
+
+// The ask that a new decoder reads of the frame in pieces of this size, if it is told of no earlier
+// piece.
+fn ask_in_pieces(frame: &[u8], size: usize) -> Option<Ask>
+    requires { 1 ≤ size }
+{
+    let mut decoder = AskDecoder::new();
+    let mut fed = Fed::More;
+    for piece in frame.chunks(size) {
+        if fed != Fed::More {
+            return None;
+        }
+        fed = decoder.feed(piece);
+    }
+    decoder.ask()
+}
+
+#[test]
+fn asks_are_read_in_any_pieces(rt: HostRuntime) {
+    let mut out = [0; 43];
+    let asks = [
+        Ask::Hello(hello()),
+        Ask::Go,
+        Ask::Draw(element(3)),
+        Ask::Bye,
+    ];
+    for ask in &asks {
+        let n = encode_ask(ask, &mut out);
+        assert_eq!(rt; ask_in_pieces(&out[..n], 1), Some(*ask));
+        assert_eq!(rt; ask_in_pieces(&out[..n], 7), Some(*ask));
+        assert_eq!(rt; ask_in_pieces(&out[..n], 43), Some(*ask));
+    }
+}
+
+#[test]
+fn the_ask_behind_a_whole_one_is_left(rt: HostRuntime) {
+    let mut decoder = AskDecoder::new();
+    let bytes = [0, 0, 0, 0, 2, 0, 0, 0, 8, 3, 0, 0, 0, 0, 0, 0, 0, 3, 0];
+    assert_eq!(rt; decoder.feed(&bytes), Fed::Whole(5));
+    assert_eq!(rt; decoder.ask(), Some(Ask::Go));
+    assert_eq!(rt; decoder.feed(&bytes[5..]), Fed::Whole(13));
+    assert_eq!(rt; decoder.ask(), Some(Ask::Draw(element(3))));
+    assert_eq!(rt;
+        (decoder.inside(), decoder.feed(&bytes[18..])),
+        (false, Fed::More)
+    );
+    assert_eq!(rt; (decoder.inside(), decoder.ask()), (true, None));
+}
+
+// Feeds the frame in pieces of this size to a decoder that is as new, and leaves it so.
+fn reply_in_pieces(decoder: &mut ReplyDecoder, frame: &[u8], size: usize) -> Told
+    requires { 1 ≤ size }
+{
+    let mut fed = Fed::More;
+    for piece in frame.chunks(size) {
+        if fed != Fed::More {
+            return Told::Other;
+        }
+        fed = decoder.feed(piece);
+    }
+    let told = match decoder.reply() {
+        None => Told::Nothing,
+        Some(reply) => told_by(&reply),
+    };
+    decoder.reset();
+    told
+}
+
+#[test]
+fn replies_are_read_in_any_pieces(rt: HostRuntime) -> Result<(), Fail> {
+    let mut decoder = ReplyDecoder::new(rt.alloc())?;
+    let values = [
+        0, 0, 0, 16, 131, 0, 0, 0, 0, 0, 0, 0, 3, 31, 255, 255, 255, 255, 255, 255, 253,
+    ];
+    let poly = [
+        0, 0, 0, 24, 130, 0, 0, 0, 0, 0, 0, 0, 1, 31, 255, 255, 255, 255, 255, 255, 254, 0, 0, 0,
+        0, 0, 0, 0, 1,
+    ];
+    for size in [1, 7, 43] {
+        assert_eq!(rt;
+            reply_in_pieces(&mut decoder, &[0, 0, 0, 1, 129, 1], size),
+            Told::Answer(true)
+        );
+        assert_eq!(rt;
+            reply_in_pieces(&mut decoder, &values, size),
+            Told::Values(3, 2305843009213693949)
+        );
+        assert_eq!(rt;
+            reply_in_pieces(&mut decoder, &poly, size),
+            Told::Poly(1, 2305843009213693950, 1)
+        );
+        assert_eq!(rt;
+            reply_in_pieces(&mut decoder, &[0, 0, 0, 1, 132, 1], size),
+            Told::OutOfTurn
+        );
+    }
+    Ok(())
+}
+
+// At which byte, counted from 1, a new decoder tells that the stream is broken.
+fn breaks_at(decoder: &mut ReplyDecoder, bytes: &[u8]) -> Option<usize> {
+    decoder.reset();
+    for (i, byte) in bytes.iter().enumerate() {
+        if decoder.feed(&[*byte]) == Fed::Broken {
+            return Some(i + 1);
+        }
+    }
+    None
+}
+
+#[test]
+fn a_broken_reply_is_told_at_the_end_of_its_part(rt: HostRuntime) -> Result<(), Fail> {
+    let mut decoder = ReplyDecoder::new(rt.alloc())?;
+    let not_below = [0, 0, 0, 48, 130, 31, 255, 255, 255, 255, 255, 255, 255];
+    assert_eq!(rt; breaks_at(&mut decoder, &not_below), Some(13));
+    assert_eq!(rt; breaks_at(&mut decoder, &[0, 0, 0, 32, 130]), Some(5));
+    assert_eq!(rt; breaks_at(&mut decoder, &[0, 24, 0, 24, 130]), Some(5));
+    assert_eq!(rt;
+        breaks_at(&mut decoder, &[255, 255, 255, 255, 255]),
+        Some(5)
+    );
+    assert_eq!(rt; breaks_at(&mut decoder, &[0, 0, 0, 1, 129, 2]), Some(6));
+    assert_eq!(rt; breaks_at(&mut decoder, &[0, 0, 0, 1, 132, 3]), Some(6));
+    Ok(())
+}
+
+#[test]
+fn a_broken_stream_stays_so_until_a_reset(rt: HostRuntime) -> Result<(), Fail> {
+    let mut replies = ReplyDecoder::new(rt.alloc())?;
+    assert_eq!(rt; replies.feed(&[0, 0, 0, 1, 129, 2]), Fed::Broken);
+    assert_eq!(rt; replies.feed(&[0, 0, 0, 1, 129, 1]), Fed::Broken);
+    replies.reset();
+    assert_eq!(rt; replies.feed(&[0, 0, 0, 1, 129, 1]), Fed::Whole(6));
+    let mut asks = AskDecoder::new();
+    assert_eq!(rt; asks.feed(&[255, 255, 255, 255, 255]), Fed::Broken);
+    assert_eq!(rt;
+        (asks.feed(&[0, 0, 0, 0, 2]), asks.inside()),
+        (Fed::Broken, false)
+    );
+    asks.reset();
+    assert_eq!(rt; asks.feed(&[0, 0, 0, 0, 2]), Fed::Whole(5));
+    Ok(())
+}
+
+#[test]
+fn the_longest_reply_is_read(rt: HostRuntime) -> Result<(), Fail> {
+    let mut decoder = ReplyDecoder::new(rt.alloc())?;
+    let zeros = [0; 4096];
+    assert_eq!(rt; decoder.feed(&[0, 24, 0, 0, 130]), Fed::More);
+    for _ in 0..383 {
+        assert_eq!(rt; decoder.feed(&zeros), Fed::More);
+    }
+    assert_eq!(rt; decoder.feed(&zeros), Fed::Whole(4096));
+    Ok(())
 }

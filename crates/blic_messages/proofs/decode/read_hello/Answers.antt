@@ -1,9 +1,10 @@
-use Rattle.std.proofs.Common.{arith}
-use Rattle.blic_messages.proofs.HelloParts.{hello_read}
+use Rattle.std.proofs.Common.{◌≡◌, sym, subst, arith}
+use Rattle.blic_messages.specs.Frames.{hello_body}
+use Rattle.blic_messages.specs.Reading.{IsHello}
+use Rattle.blic_messages.proofs.HelloBack.{hello_spelled}
 use Rattle.blic_messages.proofs.decode.read_hello.Goals as goal
 
--- src/decode.rt:101:1
 pub returns : goal.returns
 returns c =
-    hello_read c.args.bytes.now c.copy_from_slice.new.self c.read_u16.result c.read_u16-2.result c.read_u16-3.result c.if-bytes-ne38.false
-    (λ k. omega (arith, c.type_inv.bytes k)) c.read_u16.ensures c.read_u16-2.ensures c.read_u16-3.ensures c.copy_from_slice.ensures.after
+    subst (λ h. IsHello h × (c.args.bytes.now ≡ hello_body h)) (sym c.hello_of.ensures)
+    (hello_spelled c.args.bytes.now c.if-bytes-ne38.false (λ k. omega (arith, c.type_inv.bytes k)))

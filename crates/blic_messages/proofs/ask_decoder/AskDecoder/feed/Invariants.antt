@@ -1,0 +1,12 @@
+use Rattle.std.proofs.Common.{◌≡◌, ◌++◌, take}
+use Rattle.blic_messages.specs.Grammar.{front, Partial}
+use Rattle.blic_messages.specs.Fronts.{ask_grammar}
+use Rattle.blic_messages.specs.Decoding.{Inside, held_by}
+use Rattle.blic_messages.proofs.ask_decoder.AskDecoder.feed.Given as goal
+
+-- the bytes so far are held, and nothing is told of them yet
+abbrev pub invariant-loop-i : goal.invariant-loop-i
+invariant-loop-i l = record {
+  held : l.self ≡ Inside (held_by l.fn.self ++ take l.i l.piece);
+  partial : front ask_grammar (held_by l.fn.self ++ take l.i l.piece) ≡ Partial;
+}
