@@ -93,7 +93,7 @@ pub record IsHonestTalk (nodes : List Node) (levels : ℕ) (answer : Bool) (draw
   pub drawn : draws_before nodes levels (length replies) ≤ length draws
 
 -- so many replies have come
-abbrev IsHonestPosition : OrderedCircuit → ℕ → Position → Type 0
+abbrev pub IsHonestPosition : OrderedCircuit → ℕ → Position → Type 0
 IsHonestPosition c m (Awaits ask Silent n) = m ≡ 0
 IsHonestPosition c m (Awaits ask (Talked a draws replies) n) = (m ≡ suc (length replies)) × IsHonestTalk c.nodes (length c.order) a draws replies
 IsHonestPosition c m (Ended e t) = (e ≡ Certified (honest_answer c.nodes (length c.order))) × (m ≡ 1 + length (turns c.nodes (length c.order)))
@@ -226,7 +226,7 @@ talk_step x shaped draw below ask draws replies n h =
     (subst (λ z. IsHonestPosition c (suc (suc t)) (go_on draw (Talked b draws (replies ++ r ∷ [])) n z)) (sym (next_verdict nodes levels shaped draws replies r h refl more))
     (go_on_more c draw below draws (replies ++ r ∷ []) n t h.left more h.elements h.drawn))
 
-step : (x : Instance) → IsShaped x.circuit.nodes (length x.circuit.order) → (draw : ℕ → ℕ) → ((n : ℕ) → draw n < modulus) → (m : ℕ) (ask : Ask) (talk : Talk) (n : ℕ)
+pub step : (x : Instance) → IsShaped x.circuit.nodes (length x.circuit.order) → (draw : ℕ → ℕ) → ((n : ℕ) → draw n < modulus) → (m : ℕ) (ask : Ask) (talk : Talk) (n : ℕ)
     → IsHonestPosition x.circuit m (Awaits ask talk n) → IsHonestPosition x.circuit (suc m) (read_on x draw (Awaits ask talk n) (Some (honest_reply x talk)))
 step x shaped draw below m ask Silent n h =
     subst (λ z. IsHonestPosition x.circuit (suc z) (read_on x draw (Awaits ask Silent n) (Some (honest_reply x Silent)))) (sym h) (first_step x.circuit shaped draw n)

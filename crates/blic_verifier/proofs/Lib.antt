@@ -17,9 +17,11 @@ pub mod FixedBefore
 pub mod Followed
 pub mod GoingOn
 pub mod Handing
+pub mod Hearing
 pub mod HeldChecks
 pub mod HonestEntries
 pub mod HonestPasses
+pub mod HonestSaid
 pub mod HonestTranscript
 pub mod HonestWay
 pub mod Judging

@@ -25,7 +25,7 @@ sent T k i j = slice_index_or (T.polys k i) j no_poly
 abbrev pub value_at : List Node → ℕ → Transcript → ℕ → ℕ → Claim → ℕ → ℕ
 value_at nodes levels T k j c i = cond (i == length (free nodes levels k)) c.value (at (sent T k i j) (T.draw k i))
 
--- a condition: two elements have to be equal, at a place. It is shown by the reply of this number, where the answer is reply 0
+-- a condition: two elements have to be equal, at a place. It is shown by the reply of this number; the answer is reply 0
 pub record Check : Type 0 where
   pub node : ℕ
   pub part : Part

@@ -21,7 +21,7 @@ pub record ShowsBadDraw (c : OrderedCircuit) (answer : Bool) (draws : List ℕ) 
       → All (λ t. AreBadAt c.nodes (length c.order) answer draws replies t (elements t)) (turns c.nodes (length c.order))
       → sum_by (λ t. length (elements t)) (turns c.nodes (length c.order)) ≤ bad c.nodes (length c.order)
 
--- the talk was accepted with answer b, and shows what that is worth
+-- the talk (transcript) was accepted with answer b, and shows what that is worth
 abbrev pub IsWorth : OrderedCircuit → Bool → Talk → Type 0
 IsWorth c b Silent = ⊥
 IsWorth c b (Talked answer draws replies) = (b ≡ answer) × ShowsBadDraw c answer draws replies

@@ -13,7 +13,7 @@ use Rattle.blic_verifier.specs.declared.ending.Ending.TheVariants.{Certified}
 abbrev pub AreReplies : List (Option Said) → Type 0
 AreReplies readings = All (λ r. IfSome r IsReply) readings
 
--- where readings lead to an accepted answer, what was said is accepted with that answer, and shows a bad draw where the answer is wrong
+-- if readings lead to an accepted answer, what was said is accepted with that answer, and shows a bad draw if the answer is wrong
 abbrev pub CertifiedIsWorth : Type 0
 CertifiedIsWorth =
     (x : Instance) → IsShaped x.circuit.nodes (length x.circuit.order) → (draw : ℕ → ℕ) → ((n : ℕ) → draw n < modulus)

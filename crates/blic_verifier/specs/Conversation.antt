@@ -17,7 +17,7 @@ pub record Instance : Type 0 where
   pub circuit : OrderedCircuit
   pub hello : Hello
 
--- where a conversation stands: an ask was sent after this talk, and so many draws were made; or it has ended, and this was said
+-- where a conversation stands: an ask was sent after this talk (transcript), with so many draws made; or it has ended, and this was said
 pub data Position : Type 0 where
   Awaits : Ask → Talk → ℕ → Position
   Ended : Ending → Talk → Position

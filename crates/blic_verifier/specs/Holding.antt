@@ -47,7 +47,7 @@ pub record HasMet (circuit : OrderedCircuit) (answer : Bool) (draws : List ℕ) 
   pub ends : (c : ℕ) → c < claims circuit.nodes k → value_in points values k c ≡ value_in points values k 0
   pub combine : value_in points values k 0 ≡ joined (node_at circuit.nodes k) u w
 
--- whether a node is left as it is: it is where it is binary
+-- only a binary node is left as it is
 abbrev pub IsTakenRight : OrderedCircuit → ℕ → Taken → Type 0
 IsTakenRight circuit k IsBinary = is_binary (node_at circuit.nodes k) ≡ true
 IsTakenRight circuit k (HasFault c) = Unit {0}

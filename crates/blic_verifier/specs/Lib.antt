@@ -4,6 +4,8 @@ pub mod Asking
 pub mod Certified
 pub mod Conversation
 pub mod Fitted
+pub mod Hearing
+pub mod HearingLaws
 pub mod Holding
 pub mod HonestLaws
 pub mod Placed

@@ -1,4 +1,4 @@
--- Bad draws: where a polynomial that was sent meets the true one, though it is another.
+-- Bad draws (challenges): elements at which a polynomial that was sent has the value of the true one, though it is another.
 use Rattle.std.specs.Prelude.{ℕ, ◌≡◌, ◌+◌, ◌<◌, Bool, true, List, length, take, slice_index_or, All, AllPairs}
 use Rattle.blic_field.specs.Field.{modulus}
 use Rattle.blic_field.specs.Quadratic.{Quadratic, at}
@@ -30,7 +30,7 @@ said_before nodes levels answer draws replies k i =
 abbrev pub IsBad : List Node → ℕ → Bool → List ℕ → List Reply → ℕ → ℕ → ℕ → Type 0
 IsBad nodes levels answer draws replies k i r = IsRootAt nodes levels (said_before nodes levels answer draws replies k i) k i r
 
--- different bad elements for a turn; none where the turn has no draw
+-- different bad elements for a turn; none if the turn has no draw
 abbrev pub AreBadAt : List Node → ℕ → Bool → List ℕ → List Reply → Turn → List ℕ → Type 0
 AreBadAt nodes levels answer draws replies (ForPolys k i) elements =
     AllPairs (λ x y. x ≡ y → ⊥) elements × All (λ r. (r < modulus) × IsBad nodes levels answer draws replies k i r) elements

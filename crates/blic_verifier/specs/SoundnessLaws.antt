@@ -23,7 +23,7 @@ ReplyHasElements (Values u w) = (u < modulus) × (w < modulus)
 abbrev pub AreElements : List ℕ → List Reply → Type 0
 AreElements draws replies = All (λ r. r < modulus) draws × All ReplyHasElements replies
 
--- so are those of a talk
+-- so are those of a talk (transcript)
 abbrev pub TalkHasElements : Talk → Type 0
 TalkHasElements Silent = Unit {0}
 TalkHasElements (Talked answer draws replies) = AreElements draws replies

@@ -30,7 +30,7 @@ next_of (Rejected place) = next.Rejected place
 next_of (WrongKind turn) = next.WrongKind turn
 next_of (WrongCount turn want got) = next.WrongCount turn want got
 
--- what was said so far: nothing, or an answer with draws and replies
+-- what was said so far (the transcript): nothing, or an answer with draws and replies
 pub data Talk : Type 0 where
   Silent : Talk
   Talked : Bool → List ℕ → List Reply → Talk

@@ -8,7 +8,7 @@ use Rattle.blic_claims.specs.Turns.{Reply, Fits, turns, transcript, is_polys}
 use Rattle.blic_verifier.specs.Acceptance.{Check, Passes, first_fault}
 use Rattle.blic_verifier.specs.Verdict.{Done, judged, fault_upto}
 
--- of an answer, all draws and all replies, which fit their turns, it is said that the answer stands exactly where they pass
+-- of an answer, all draws and all replies, which fit their turns, it is said that the answer stands exactly if they pass
 abbrev pub DoneIsAcceptance : Type 0
 DoneIsAcceptance =
     (nodes : List Node) (levels : ℕ) (answer : Bool) (draws : List ℕ) (replies : List Reply)

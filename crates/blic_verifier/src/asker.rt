@@ -69,8 +69,8 @@ impl<'c> Model for Asker<'c> {
 }
 
 impl<'c> Asker<'c> {
-    /// An asker about the circuit, which `hello` names, at the beginning of a conversation with the draws of 32 zeros. No other call takes
-    /// memory.
+    /// An asker about the circuit, which `hello` names, at the beginning of a conversation. Which draws it begins with is not said.
+    /// No other call takes memory.
     pub fn new(
         alloc: Global,
         circuit: &'c Circuit,
@@ -100,7 +100,7 @@ impl<'c> Asker<'c> {
         })
     }
 
-    /// Begins a conversation, with the draws of the seed from draw `first` on, of at most 2^61. Answers its first ask.
+    /// Begins a conversation, with the draws (challenges) of the seed from draw `first` on, which is at most 2^61. Answers its first ask.
     pub fn begin(&mut self, seed: [u8; 32], first: u64) -> Ask
         requires { first ≤ 2 ^ 61 }
         ensures ask { result ≡ AskHello self.old.about.hello }
@@ -199,7 +199,7 @@ fn judge<L: Ledger>(
     go_on(verifier, next, draws, steps)
 }
 
-// What follows on what the verifier said. A draw is made where one stands next.
+// What follows on what the verifier said. A draw is made if one stands next.
 fn go_on<L: Ledger>(
     verifier: &mut Verifier<'_>,
     next: Next,

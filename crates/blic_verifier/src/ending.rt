@@ -12,7 +12,7 @@ pub enum Ending {
     /// A reply of another kind than the one that stood at this turn; turns count replies from 0.
     WrongKind { turn: u64 },
     /// A reply with another number of polynomials than there were claims on the node; more than `u32::MAX`
-    /// are told as that.
+    /// are reported as that.
     WrongCount { turn: u64, want: u32, got: u32 },
     /// The other end refused to go on.
     ServerRefused(Refusal),

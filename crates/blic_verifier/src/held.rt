@@ -19,7 +19,7 @@ use blic_poly2::Poly2;
 use std::alloc::Global;
 use std::sync::ledger::Ledger;
 
-/// The claims on the nodes of a circuit, where its layout keeps them.
+/// The claims on the nodes of a circuit, at the places of its layout.
 #[derive(Drop)]
 pub(crate) struct Held {
     pub points: Points,

@@ -19,7 +19,7 @@ mod walk;
 pub use asker::{Asker, Following};
 pub use ending::Ending;
 pub use honest::{acceptance_law, honest_reply_law};
-pub use laws::{certified_law, verdict_law};
+pub use laws::{certified_law, hearing_law, verdict_law};
 pub use next::Next;
 pub use place::{Part, Place};
 pub use soundness::{bad_count_law, soundness_law};

@@ -15,7 +15,7 @@ pub enum Next {
     /// The reply is of another kind than the one that stands at this turn; turns count replies from 0.
     WrongKind { turn: u64 },
     /// The reply has another number of polynomials than there are claims on the node; more than `u32::MAX`
-    /// are told as that.
+    /// are reported as that.
     WrongCount { turn: u64, want: u32, got: u32 },
     /// A verdict was given before.
     Over,

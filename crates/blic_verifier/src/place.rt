@@ -1,6 +1,7 @@
 // Where a conversation fails.
 
-/// A check of the verifier: the node, which of its conditions, and the claim that it is about.
+/// A check of the verifier: the node, which of its conditions, and the claim that it is about; the
+/// claims on a node are counted from 0.
 #[derive(Clone, Copy, Debug, PartialEq, Eq)]
 pub struct Place {
     pub node: u32,

@@ -1,8 +1,8 @@
 // What an accepted conversation with a wrong answer shows.
 ghost use Rattle.blic_verifier.specs.SoundnessLaws.{BadIsFixedBefore, FewBadAtADraw, FewBadInAll, WrongTruthHasBadDraw, WrongValueHasBadDraw};
 
-/// An accepted conversation with a wrong answer has a bad draw, whoever sent it; which elements are bad is fixed before
-/// the draw.
+/// An accepted conversation with a wrong answer has a bad draw (challenge), whoever sent the replies; which elements are bad is
+/// fixed before the draw.
 pub fn soundness_law()
     ensures value { WrongValueHasBadDraw }
     ensures truth { WrongTruthHasBadDraw }
