@@ -1,4 +1,4 @@
-// Words that don't fit, and faults of the files and of the output.
+// Arguments that don't fit, and faults of the files and of the output.
 use crate::running::{sink, words_of};
 use blic_basic::{Files, MemFile, MemFiles, NoWatch, SureEntropy, SureFiles};
 use blic_top::run;
@@ -19,7 +19,7 @@ fn files(
     Ok(MemFiles::new(alloc, files, 5, failing, takes_failing, 1).map_err(|_| "memory")?)
 }
 
-// Words that fit no command, a line each.
+// Arguments that fit no command, a line each.
 const MISFITS: &str = "
 solve
 solve a b

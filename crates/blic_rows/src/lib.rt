@@ -1,4 +1,4 @@
-//! Worked rows of solving, of words and of faults. It has no calls of its own.
+//! Worked rows of solving, of arguments and of faults. It has no calls of its own.
 #![tactic(auto)]
 
 #[cfg(test)]

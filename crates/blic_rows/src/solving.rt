@@ -19,7 +19,7 @@ fn assert_solves(
     assert_runs(rt, alloc, "solve f", options, file, status, line)
 }
 
-// The status of the formula's truth by trying all values, where it is one of few variables.
+// The status of the formula's truth by trying all values, if it is one of few variables.
 fn status_by_cases(alloc: Global, file: &[u8]) -> Result<Option<u8>, Fail> {
     match read(alloc, &mut SureSource::new(file)) {
         Ok(formula) if formula.prefix().len() <= 20 => {
@@ -30,8 +30,8 @@ fn status_by_cases(alloc: Global, file: &[u8]) -> Result<Option<u8>, Fail> {
     }
 }
 
-// Rows of options, a file, its status and its line, with a bar between them. Where the answer is
-// a truth, trying all values gives the same one.
+// Rows of options, a file, its status and its line, with a bar between them. If the answer is a
+// truth, trying all values gives the same one.
 fn assert_rows(rt: &impl Abort, alloc: Global, rows: &str) -> Result<(), Fail> {
     for row in rows.lines() {
         let (options, rest) = row.split_once('|').ok_or("options and more")?;
@@ -92,6 +92,33 @@ fn the_limits_of_solving_are_exact(rt: HostRuntime) -> Result<(), Fail> {
 --nodes 3|p cnf 2 2/e 1 2 0/1 2 0/1 2 0/|10|s cnf 1 2 2/
 --nodes 2|p cnf 2 2/e 1 2 0/1 2 0/1 2 0/|8|c limit nodes at 2/
 --nodes 1 --pairs 1|p cnf 1 1/0/|20|s cnf 0 1 1/",
+    )
+}
+
+// The smallest formulas of five families: equality, those of Kleine Büning, Karpinski and Flögel,
+// quantified parity, three pigeons in two holes, and an adder of one bit.
+#[test]
+fn each_family_is_solved_right_at_its_limits_and_not_one_past_them(
+    rt: HostRuntime,
+) -> Result<(), Fail> {
+    assert_rows(
+        &rt,
+        rt.alloc(),
+        "--nodes 17 --pairs 12|p cnf 3 3/e 1 0/a 2 0/e 3 0/1 2 3 0/-1 -2 3 0/-3 0/|20|s cnf 0 3 3/
+--nodes 16|p cnf 3 3/e 1 0/a 2 0/e 3 0/1 2 3 0/-1 -2 3 0/-3 0/|8|c limit nodes at 12/
+--pairs 11|p cnf 3 3/e 1 0/a 2 0/e 3 0/1 2 3 0/-1 -2 3 0/-3 0/|8|c limit pairs at 17/
+--nodes 41 --pairs 29|p cnf 5 6/e 1 2 3 0/a 4 0/e 5 0/-1 0/1 -2 -3 0/2 4 -5 0/3 -4 -5 0/4 5 0/-4 5 0/|20|s cnf 0 5 6/
+--nodes 40|p cnf 5 6/e 1 2 3 0/a 4 0/e 5 0/-1 0/1 -2 -3 0/2 4 -5 0/3 -4 -5 0/4 5 0/-4 5 0/|8|c limit nodes at 27/
+--pairs 28|p cnf 5 6/e 1 2 3 0/a 4 0/e 5 0/-1 0/1 -2 -3 0/2 4 -5 0/3 -4 -5 0/4 5 0/-4 5 0/|8|c limit pairs at 28/
+--nodes 46 --pairs 41|p cnf 4 6/e 1 2 0/a 3 0/e 4 0/-4 1 2 0/-4 -1 -2 0/4 -1 2 0/4 1 -2 0/3 4 0/-3 -4 0/|20|s cnf 0 4 6/
+--nodes 45|p cnf 4 6/e 1 2 0/a 3 0/e 4 0/-4 1 2 0/-4 -1 -2 0/4 -1 2 0/4 1 -2 0/3 4 0/-3 -4 0/|8|c limit nodes at 27/
+--pairs 40|p cnf 4 6/e 1 2 0/a 3 0/e 4 0/-4 1 2 0/-4 -1 -2 0/4 -1 2 0/4 1 -2 0/3 4 0/-3 -4 0/|8|c limit pairs at 28/
+--nodes 44 --pairs 47|p cnf 6 9/e 1 2 3 4 5 6 0/1 2 0/3 4 0/5 6 0/-1 -3 0/-1 -5 0/-3 -5 0/-2 -4 0/-2 -6 0/-4 -6 0/|20|s cnf 0 6 9/
+--nodes 43|p cnf 6 9/e 1 2 3 4 5 6 0/1 2 0/3 4 0/5 6 0/-1 -3 0/-1 -5 0/-3 -5 0/-2 -4 0/-2 -6 0/-4 -6 0/|8|c limit nodes at 27/
+--pairs 46|p cnf 6 9/e 1 2 3 4 5 6 0/1 2 0/3 4 0/5 6 0/-1 -3 0/-1 -5 0/-3 -5 0/-2 -4 0/-2 -6 0/-4 -6 0/|8|c limit pairs at 28/
+--nodes 47 --pairs 42|p cnf 4 9/a 1 2 0/e 3 4 0/-3 1 2 0/-3 -1 -2 0/3 -1 2 0/3 1 -2 0/-4 1 0/-4 2 0/4 -1 -2 0/-4 4 0/4 -4 0/|10|s cnf 1 4 9/
+--nodes 46|p cnf 4 9/a 1 2 0/e 3 4 0/-3 1 2 0/-3 -1 -2 0/3 -1 2 0/3 1 -2 0/-4 1 0/-4 2 0/4 -1 -2 0/-4 4 0/4 -4 0/|8|c limit nodes at 34/
+--pairs 41|p cnf 4 9/a 1 2 0/e 3 4 0/-3 1 2 0/-3 -1 -2 0/3 -1 2 0/3 1 -2 0/-4 1 0/-4 2 0/4 -1 -2 0/-4 4 0/4 -4 0/|8|c limit pairs at 35/",
     )
 }
 

@@ -1,7 +1,6 @@
 // Whole conversations whose replies were worked out by hand.
 ghost use Rattle.std.specs.Prelude.{◌≡◌, ◌<◌};
 
-use crate::running::lines_of;
 use blic_basic::{Steps, SureSource};
 use blic_circuit::build;
 use blic_claims::{Answers, Layout};
@@ -19,8 +18,7 @@ use std::sync::ledger::{Blank, Ledger};
 use std::test::Fail;
 
 fn formula_of(alloc: Global, text: &str) -> Result<Formula, Fail> {
-    let bytes = lines_of(alloc, text)?;
-    Ok(read(alloc, &mut SureSource::new(bytes.as_slice())).map_err(|_| "no formula")?)
+    Ok(read(alloc, &mut SureSource::new(text.as_bytes())).map_err(|_| "no formula")?)
 }
 
 // The element of a number, or the negative of one.
@@ -145,7 +143,7 @@ const WORKED: [&[i64]; 13] = [
     &[7, 1],
 ];
 
-const DIFFER: &str = "p cnf 2 2/a 1 0/e 2 0/1 2 0/-1 -2 0/";
+const DIFFER: &str = "p cnf 2 2\na 1 0\ne 2 0\n1 2 0\n-1 -2 0\n";
 
 #[test]
 fn two_variables_that_differ_are_talked_about_as_worked_out_by_hand(
@@ -167,7 +165,7 @@ fn two_variables_that_differ_are_talked_about_as_worked_out_by_hand(
     Ok(())
 }
 
-const TAUTOLOGY: &str = "p cnf 1 2/e 1 0/1 -1 0/1 1 0/";
+const TAUTOLOGY: &str = "p cnf 1 2\ne 1 0\n1 -1 0\n1 1 0\n";
 
 #[test]
 fn a_tautology_and_a_repeated_literal_are_talked_about_as_worked_out_by_hand(
