@@ -1,5 +1,7 @@
 pub mod Following
+pub mod Heard
 pub mod Honesty
+pub mod LongFrames
 pub mod Onward
 pub mod Refusing
 pub mod Replying

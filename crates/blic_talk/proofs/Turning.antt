@@ -16,7 +16,7 @@ use Rattle.blic_messages.specs.declared.ask.Hello.{Hello as HelloOf}
 use Rattle.blic_messages.specs.declared.ask.Ask.{Ask}
 use Rattle.blic_messages.specs.declared.reply.Refusal.{Refusal}
 use Rattle.blic_prover.specs.Standing.{ServesFor}
-use Rattle.blic_verifier.specs.Asking.{Asking, IsOpen, IsSaidAt, replies_in}
+use Rattle.blic_verifier.specs.Asking.{IsOpen, IsSaidAt, replies_in}
 use Rattle.blic_verifier.specs.Asking.{IsAt as AskerIsAt}
 use Rattle.blic_verifier.specs.Verdict.{Talk, Silent, Talked}
 use Rattle.blic_verifier.specs.Conversation.{Instance, Position, Awaits, honest_reply, read_on}
@@ -48,10 +48,6 @@ pub carried_about : (x : Machines) (t : Talk) (alters altered : Bool) (came : Li
 carried_about x t alters altered came same is carried =
     subst (λ b. IsCarried b (reply_spelling (honest_reply x.asker.about t)) came) is
     (subst (λ z. IsCarried altered (reply_spelling (honest_reply (about z x.asker.about.hello) t)) came) same (carried x.asker.about.hello))
-
--- where an asker's conversation is after a reply
-abbrev pub position_by : Asking → Ask → Talk → ℕ → Option Said → Position
-position_by a ask t n says = read_on a.about (draw_from a.draws.source) (Awaits ask t n) says
 
 -- a watch saw two frames
 pub shows_two : (old mid new : Option (List (List ℕ))) (x y : List ℕ) → Adds old mid x → Adds mid new y → Shows old new (x ∷ y ∷ [])

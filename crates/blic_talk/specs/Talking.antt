@@ -1,5 +1,5 @@
 -- Private: a conversation under way. No public contract cites this file.
-use Rattle.std.specs.Prelude.{◌≡◌, ℕ, suc, ◌+◌, ◌*◌, Bool, true, false, cond, List, [], ◌∷◌, ◌++◌, length, take, Option, Some, None}
+use Rattle.std.specs.Prelude.{◌≡◌, ℕ, suc, ◌+◌, ◌*◌, ◌≤◌, Bool, true, false, cond, List, [], ◌∷◌, ◌++◌, length, take, Option, Some, None}
 use Rattle.std.specs.Io.KnownBytes.{append_known}
 use Rattle.blic_basic.specs.Outside.{Rose}
 use Rattle.blic_model.specs.Circuit.{OrderedCircuit}
@@ -17,7 +17,7 @@ use Rattle.blic_prover.specs.Honest.{progress, Waiting, Running}
 use Rattle.blic_prover.specs.Standing.{Proving}
 use Rattle.blic_prover.specs.Standing.{ServesFor}
 use Rattle.blic_prover.specs.declared.stage.Stage.TheVariants.{Fresh}
-use Rattle.blic_verifier.specs.Asking.{IsOpen, replies_in}
+use Rattle.blic_verifier.specs.Asking.{Asking, IsOpen, replies_in}
 use Rattle.blic_verifier.specs.Asking.{IsAt as AskerIsAt}
 use Rattle.blic_verifier.specs.Verdict.{Talk, Silent, Talked}
 use Rattle.blic_verifier.specs.Conversation.{Position, Awaits, Ended, beginning, honest_reply, read_on}
@@ -64,6 +64,7 @@ pub record AreFitted (x : Machines) : Type 0 where
   pub serves : x.prover.served ≡ x.asker.about.hello
   pub most : ℕ
   pub room : HasFrameRoom x.asker.about.circuit (length x.frame.items) most
+  pub polys : 65536 ≤ length x.polys.items
   pub turns : x.turns ≡ length (turns x.asker.about.circuit.nodes (length x.asker.about.circuit.order))
 
 -- it is about what it was about
@@ -81,6 +82,10 @@ pub record IsBegun (x : Machines) (ask : Ask) : Type 0 where
   pub place : x.asker.draws.place ≡ 0
   pub fresh : x.prover.stage ≡ Fresh
   pub at : IsAt x [] ask Silent
+
+-- where an asker's conversation is after a reply that says this
+abbrev pub position_by : Asking → Position → Option Said → Position
+position_by a p says = read_on a.about (draw_from a.draws.source) p says
 
 -- the position after a reply that says this
 abbrev pub position_of : Machines → Ask → Talk → Option Said → Position

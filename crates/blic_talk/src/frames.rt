@@ -1,25 +1,36 @@
 // Frames of asks and of replies, and what a watch leaves of them.
-ghost use Rattle.std.specs.Prelude.{◌≡◌, ◌≤◌, ◌+◌, ◌<◌, ◌∷◌, ◌++◌, [], ℕ, List, length, take, slice_index};
+ghost use Rattle.std.specs.Prelude.{◌≡◌, ◌≤◌, ◌+◌, ◌<◌, ◌∷◌, ◌++◌, [], ℕ, List, Option, None, length, take, option_map, slice_index};
 ghost use Rattle.blic_basic.specs.Watching.{Adds};
 ghost use Rattle.blic_messages.specs.Frames.{ask_spelling, reply_spelling};
+ghost use Rattle.blic_messages.specs.Reading.{Reads};
+ghost use Rattle.blic_messages.specs.Replies.{Said, said};
 ghost use Rattle.blic_messages.specs.declared.ask.Ask.{Ask as AskOf};
 ghost use Rattle.blic_messages.specs.declared.ask.Hello.{Hello as HelloOf};
 ghost use Rattle.blic_prover.specs.Standing.{GoesOn, ServesFor};
-ghost use Rattle.blic_verifier.specs.Conversation.{honest_reply};
+ghost use Rattle.blic_verifier.specs.Asking.{IsSaidAt};
+ghost use Rattle.blic_verifier.specs.Asking.{IsAt as AskerIsAt};
+ghost use Rattle.blic_verifier.specs.Conversation.{Position, honest_reply};
 ghost use Rattle.blic_verifier.specs.Verdict.{Talk};
-ghost use Rattle.blic_talk.specs.Talking.{HasFrameRoom, IsAsked};
+ghost use Rattle.blic_talk.specs.Talking.{HasFrameRoom, IsAsked, position_by};
 ghost use Rattle.blic_talk.specs.Wire.{IsCarried};
 
 use blic_basic::{Steps, Watch};
 use blic_claims::{Answers, claims_law};
-use blic_messages::{Ask, Hello, encode_ask, encode_reply};
+use blic_messages::{Ask, Hello, Reply, decode_reply, encode_ask, encode_reply};
 use blic_model::Circuit;
+use blic_poly2::Poly2;
 use blic_prover::{Prover, Step};
-use blic_verifier::honest_reply_law;
+use blic_verifier::{Asker, Following, honest_reply_law};
 use std::sync::ledger::Ledger;
 
 /// The length of the longest ask's frame.
 pub(crate) const LONGEST_ASK: usize = 43;
+
+/// The greatest number of polynomials in a reply.
+pub(crate) const MOST_POLYS: usize = 65_536;
+
+/// The length of the longest reply's frame.
+const LONGEST_REPLY: usize = 5 + 24 * MOST_POLYS;
 
 /// Shows an ask's frame to the watch. It stands at the start of the buffer, and its length is answered.
 pub(crate) fn show_ask<W: Watch>(ask: &Ask, frame: &mut [u8], watch: &mut W) -> usize
@@ -96,4 +107,33 @@ pub(crate) fn reply<A: Answers, L: Ledger>(
         // The ask is the one that stands next.
         _ => 0,
     }
+}
+
+/// Has the asker hear what a frame of any length says, whose polynomials go to the beginning of `polys`.
+pub(crate) fn hear_frame<L: Ledger>(
+    asker: &mut Asker<'_>,
+    frame: &[u8],
+    polys: &mut [Poly2],
+    steps: &mut Steps<L>,
+) -> Following
+    requires room { 65536 ≤ length polys.old }
+    ensures room { length polys.new ≡ length polys.old }
+    ensures about { asker.new.about ≡ asker.old.about }
+    ensures source { asker.new.draws.source ≡ asker.old.draws.source }
+    ensures follows { asker.old.ended ≡ None → (says : Option Said) × Reads frame.now says
+        × ((p : Position) → AskerIsAt asker.old p → AskerIsAt asker.new (position_by asker.old p says) × IsSaidAt result (position_by asker.old p says)) }
+{
+    let reading = read(frame, polys);
+    asker.hear(reading.as_ref(), steps)
+}
+
+// The reply that a frame of any length says.
+fn read<'a>(frame: &[u8], polys: &'a mut [Poly2]) -> Option<Reply<'a>>
+    requires { 65536 ≤ length polys.old }
+    ensures { Reads frame.now (option_map said result) }
+{
+    if frame.len() > LONGEST_REPLY {
+        return None;
+    }
+    decode_reply(frame, polys)
 }

@@ -17,12 +17,14 @@ ghost use Rattle.blic_talk.specs.Talking.{ArePrinted, HasCome, IsAsked, IsAt, Is
 ghost use Rattle.blic_talk.specs.Holding.{EndCounts, IsTalk};
 ghost use Rattle.blic_talk.specs.Wire.{IsCarried, Shows, spoken_at};
 
-use crate::frames::{LONGEST_ASK, reply, show, show_ask};
+use crate::frames::{LONGEST_ASK, MOST_POLYS, hear_frame, reply, show, show_ask};
 use crate::lines::print_turn;
 use blic_basic::{NoMem, Sink, Steps, Watch};
 use blic_claims::{Answers, Layout, claims_law};
+use blic_field::Fe;
 use blic_messages::{Ask, Hello};
 use blic_model::Circuit;
+use blic_poly2::Poly2;
 use blic_print::{WriteFault, print_frame};
 use blic_prover::Prover;
 use blic_verifier::{Asker, Ending, Following};
@@ -37,6 +39,7 @@ pub(crate) struct Machines<'c> {
     pub(crate) prover: Prover<'c>,
     pub(crate) asker: Asker<'c>,
     pub(crate) frame: Vec<u8>,
+    pub(crate) polys: Vec<Poly2>,
     pub(crate) talk: bool,
 }
 
@@ -54,12 +57,18 @@ impl<'c> Machines<'c> {
         ensures about { IfOk result (λ x. conversing x ≡ record { about = record { circuit = circuit.now; hello = hello }; talk = talk }) }
     {
         let most = layout.most_claims(circuit) as usize;
+        let none = Poly2 {
+            c0: Fe::ZERO,
+            c1: Fe::ZERO,
+            c2: Fe::ZERO,
+        };
         Ok(Machines {
             circuit,
             turns: layout.replies(),
             prover: Prover::new(alloc, circuit, layout, hello)?,
             asker: Asker::new(alloc, circuit, layout, hello)?,
             frame: vec![in alloc; 0; LONGEST_ASK + 24 * most]?,
+            polys: vec![in alloc; none; MOST_POLYS]?,
             talk,
         })
     }
@@ -162,7 +171,12 @@ impl<'c> Machines<'c> {
         let mut asked = [0; LONGEST_ASK];
         let asked_len = show_ask(ask, &mut asked, watch);
         let came_len = self.show_reply(ask, answers, watch, steps);
-        let following = self.asker.take(&self.frame[..came_len], steps);
+        let following = hear_frame(
+            &mut self.asker,
+            &self.frame[..came_len],
+            &mut self.polys,
+            steps,
+        );
         match self.print(&asked[..asked_len], came_len, &following, out) {
             Ok(()) => Some(following),
             Err(WriteFault) => None,

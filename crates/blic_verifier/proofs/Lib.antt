@@ -27,7 +27,6 @@ pub mod HonestWay
 pub mod Judging
 pub mod LeafWalks
 pub mod LevelChain
-pub mod LongFrames
 pub mod NodeWalks
 pub mod OfElements
 pub mod PairPlaces

@@ -1,7 +1,6 @@
 -- Where an asker stands.
-use Rattle.std.proofs.Common.{arith, ℕ, ◌≡◌, ◌+◌, ◌<◌, ◌^◌, refl, sym, ◌∙◌, ap, subst, List, ◌++◌, length, take, drop}
+use Rattle.std.proofs.Common.{arith, ℕ, ◌≡◌, ◌<◌, ◌^◌, refl, sym, ◌∙◌, ap, subst, length}
 use Rattle.std.specs.Prelude.{Option, Some, None}
-use Rattle.std.proofs.lemmas.List.{length-append, length-drop, length-take}
 use Rattle.blic_model.specs.Circuit.{OrderedCircuit}
 use Rattle.blic_claims.specs.Turns.{turns}
 use Rattle.blic_draw.specs.DrawRun.{DrawsOf, draw_from}
@@ -35,7 +34,7 @@ abbrev pub ended_by : Following → Option Ending
 ended_by (Asks ask) = None
 ended_by (Ends e) = Some e
 
--- where it stands after a frame
+-- where it stands after what came
 abbrev pub After : Asking → DrawsOf → Verifying → Option Said → Following → Position → Type 0
 After a d v says result p =
     IsAt (record { about = a.about; draws = d; verifier = v; ended = ended_by result }) (read_on a.about (draw_from a.draws.source) p says)
@@ -77,9 +76,3 @@ tells_as r q p is tells = subst (λ z. IsSaidAt z p) is tells
 pub not_ended : (o : Option Ending) → ((e : Ending) → o ≡ Some e → ⊥) → o ≡ None
 not_ended None none = refl
 not_ended (Some e) none = absurd (none e refl)
-
--- polynomials put at the front of a buffer leave its length
-pub kept_length : {X : Type 0} (n : ℕ) (new items : List X) → n ≡ length items → length new ≡ length items → length (take n (new ++ drop (length new) items)) ≡ length items
-kept_length n new items all same =
-    let joined : length (new ++ drop (length new) items) ≡ length items = length-append new (drop (length new) items) ∙ (ap (λ m. length new + m) (length-drop (length new) items) ∙ omega (arith, same)) in
-    length-take n (new ++ drop (length new) items) ∙ omega (arith, all, joined)

@@ -1,5 +1,5 @@
 -- Private: what an asker keeps to.
-use Rattle.std.specs.Prelude.{ℕ, ◌≡◌, ◌≤◌}
+use Rattle.std.specs.Prelude.{◌≡◌}
 use Rattle.blic_draw.specs.DrawRun.{DrawsOf}
 use Rattle.blic_verifier.specs.Asking.{Asking, IsAt, IsWaiting}
 use Rattle.blic_verifier.specs.Conversation.{Position, Awaits, Ended}
@@ -8,10 +8,9 @@ use Rattle.blic_verifier.specs.Verdict.{Talk}
 use Rattle.blic_verifier.specs.declared.asker.Following.{Following}
 use Rattle.blic_verifier.specs.declared.asker.Following.TheVariants.{Asks, Ends}
 
--- what holds of every asker, with room for so many polynomials
-pub record IsPlaced (a : Asking) (capacity : ℕ) : Type 0 where
+-- what holds of every asker
+pub record IsPlaced (a : Asking) : Type 0 where
   pub verifies : a.verifier.circuit ≡ a.about.circuit
-  pub room : 65536 ≤ capacity
   pub position : Position
   pub at : IsAt a position
 

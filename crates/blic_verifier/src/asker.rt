@@ -1,9 +1,8 @@
-// The verifier's end of a conversation, over frames and nothing else.
-ghost use Rattle.std.specs.Prelude.{◌≡◌, ◌≢◌, ◌≤◌, ◌<◌, ◌^◌, Option, None, Some, option_map, length, true, IfOk};
+// The verifier's end of a conversation, over replies and nothing else.
+ghost use Rattle.std.specs.Prelude.{◌≡◌, ◌≢◌, ◌≤◌, ◌<◌, ◌^◌, Option, None, Some, option_map, true, IfOk};
 ghost use Rattle.blic_claims.specs.Places.{layout_of};
 ghost use Rattle.blic_draw.specs.DrawRun.{draw_from};
-ghost use Rattle.blic_messages.specs.Reading.{Reads};
-ghost use Rattle.blic_messages.specs.Replies.{Said, said};
+ghost use Rattle.blic_messages.specs.Replies.{said};
 ghost use Rattle.blic_messages.specs.declared.ask.Hello.{Hello as HelloOf};
 ghost use Rattle.blic_messages.specs.declared.ask.Ask.{Ask as AskOf};
 ghost use Rattle.blic_messages.specs.declared.ask.Ask.TheVariants.{Hello as AskHello};
@@ -21,21 +20,13 @@ use crate::verifier::Verifier;
 use blic_basic::{NoMem, Steps};
 use blic_claims::{Layout, claims_law};
 use blic_draw::DrawRun;
-use blic_field::Fe;
-use blic_messages::{Ask, Hello, Reply, decode_reply};
+use blic_messages::{Ask, Hello, Reply};
 use blic_model::Circuit;
-use blic_poly2::Poly2;
 use std::alloc::Global;
 use std::marker::Model;
 use std::sync::ledger::Ledger;
 
-/// The greatest number of polynomials in a reply.
-const MOST_POLYS: usize = 65_536;
-
-/// The length of the longest reply's frame.
-const LONGEST_REPLY: usize = 5 + 24 * MOST_POLYS;
-
-/// What follows on a frame.
+/// What follows on what came.
 #[derive(Clone, Copy, Debug, PartialEq, Eq)]
 pub enum Following {
     /// The ask that stands next.
@@ -45,19 +36,17 @@ pub enum Following {
 }
 
 /// The verifier's end of one conversation at a time about a circuit: it says each ask, makes each draw, and judges
-/// each frame that comes.
+/// each reply that comes.
 #[derive(Drop)]
 pub struct Asker<'c> {
     circuit: &'c Circuit,
     hello: Hello,
     draws: DrawRun,
     verifier: Verifier<'c>,
-    polys: Vec<Poly2>,
     ended: Option<Ending>,
 }
 
 impl<'c> Model for Asker<'c> {
-    ghost use Rattle.std.specs.Prelude.{length};
     ghost use Rattle.blic_verifier.specs.Asking.{Asking};
     ghost use Rattle.blic_verifier.specs.Placed.{IsPlaced};
 
@@ -65,7 +54,7 @@ impl<'c> Model for Asker<'c> {
 
     ghost view = { λ a. record { about = record { circuit = a.circuit.now; hello = a.hello }; draws = a.draws; verifier = a.verifier; ended = a.ended } };
 
-    ghost invariant = { λ a. IsPlaced (record { about = record { circuit = a.circuit.now; hello = a.hello }; draws = a.draws; verifier = a.verifier; ended = a.ended }) (length a.polys.items) };
+    ghost invariant = { λ a. IsPlaced (record { about = record { circuit = a.circuit.now; hello = a.hello }; draws = a.draws; verifier = a.verifier; ended = a.ended }) };
 }
 
 impl<'c> Asker<'c> {
@@ -81,21 +70,12 @@ impl<'c> Asker<'c> {
         ensures about { IfOk result (λ a. a.about ≡ record { circuit = circuit.now; hello = hello }) }
         ensures at { IfOk result (λ a. IsAt a (beginning a.about)) }
     {
-        let none = Poly2 {
-            c0: Fe::ZERO,
-            c1: Fe::ZERO,
-            c2: Fe::ZERO,
-        };
         let verifier = Verifier::new(alloc, circuit, layout)?;
-        let Ok(polys) = vec![in alloc; none; MOST_POLYS] else {
-            return Err(NoMem);
-        };
         Ok(Asker {
             circuit,
             hello,
             draws: DrawRun::new([0; 32], 0),
             verifier,
-            polys,
             ended: None,
         })
     }
@@ -114,26 +94,26 @@ impl<'c> Asker<'c> {
         Ask::Hello(self.hello)
     }
 
-    /// Takes the frame that came after the ask, and says what follows. After the end it says how the conversation ended.
-    pub fn take<L: Ledger>(&mut self, frame: &[u8], steps: &mut Steps<L>) -> Following
+    /// Hears what came after the ask: a reply, or with `None` bytes that are none. Says what follows. After the end it says how the
+    /// conversation ended.
+    pub fn hear<L: Ledger>(
+        &mut self,
+        reading: Option<&Reply<'_>>,
+        steps: &mut Steps<L>,
+    ) -> Following
         ensures about { self.new.about ≡ self.old.about }
         ensures source { self.new.draws.source ≡ self.old.draws.source }
         ensures over { (e : EndingOf) → self.old.ended ≡ Some e → (result ≡ Following.Ends e) × (self.new ≡ self.old) }
-        ensures follows { self.old.ended ≡ None → (says : Option Said) × Reads frame.now says × ((p : Position) → IsAt self.old p
-            → IsAt self.new (read_on self.old.about (draw_from self.old.draws.source) p says) × IsSaidAt result (read_on self.old.about (draw_from self.old.draws.source) p says)) }
+        ensures follows { self.old.ended ≡ None → (p : Position) → IsAt self.old p
+            → IsAt self.new (read_on self.old.about (draw_from self.old.draws.source) p (option_map (λ r. said r.now) reading.entry))
+            × IsSaidAt result (read_on self.old.about (draw_from self.old.draws.source) p (option_map (λ r. said r.now) reading.entry)) }
     {
         claims_law();
         self.circuit.is_within_limits();
         if let Some(ending) = self.ended {
             return Following::Ends(ending);
         }
-        let following = follow(
-            &mut self.verifier,
-            &mut self.draws,
-            frame,
-            &mut self.polys,
-            steps,
-        );
+        let following = follow(&mut self.verifier, &mut self.draws, reading, steps);
         match following {
             Following::Asks(_) => {}
             Following::Ends(ending) => self.ended = Some(ending),
@@ -142,39 +122,25 @@ impl<'c> Asker<'c> {
     }
 }
 
-// What follows on a frame while the conversation goes on.
+// What follows on what came while the conversation goes on.
 fn follow<L: Ledger>(
     verifier: &mut Verifier<'_>,
     draws: &mut DrawRun,
-    frame: &[u8],
-    polys: &mut [Poly2],
+    reading: Option<&Reply<'_>>,
     steps: &mut Steps<L>,
 ) -> Following
     requires waiting { IsWaiting verifier.old }
     requires talked { (t : Talk) × StandsFor verifier.old t }
     requires place { draws.old.place < 2 ^ 60 }
-    requires room { 65536 ≤ length polys.old }
     ensures circuit { verifier.new.circuit ≡ verifier.old.circuit }
     ensures source { draws.new.source ≡ draws.old.source }
-    ensures room { length polys.new ≡ length polys.old }
-    ensures follows { (says : Option Said) × Reads frame.now says × ((hello : HelloOf) (ask : AskOf) (t : Talk) → StandsFor verifier.old t
-        → IsFollowed verifier.new draws.new (read_on (record { circuit = verifier.old.circuit; hello = hello }) (draw_from draws.old.source) (Awaits ask t draws.old.place) says) result) }
+    ensures follows { (hello : HelloOf) (ask : AskOf) (t : Talk) → StandsFor verifier.old t
+        → IsFollowed verifier.new draws.new (read_on (record { circuit = verifier.old.circuit; hello = hello }) (draw_from draws.old.source) (Awaits ask t draws.old.place) (option_map (λ r. said r.now) reading.entry)) result }
 {
-    match read(frame, polys) {
+    match reading {
         None => Following::Ends(Ending::NotFrame),
-        Some(reply) => judge(verifier, draws, &reply, steps),
+        Some(reply) => judge(verifier, draws, reply, steps),
     }
-}
-
-// The reply that a frame of any length says.
-fn read<'a>(frame: &[u8], polys: &'a mut [Poly2]) -> Option<Reply<'a>>
-    requires { 65536 ≤ length polys.old }
-    ensures { Reads frame.now (option_map said result) }
-{
-    if frame.len() > LONGEST_REPLY {
-        return None;
-    }
-    decode_reply(frame, polys)
 }
 
 // What follows on a reply.

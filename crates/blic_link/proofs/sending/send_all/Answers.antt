@@ -26,7 +26,7 @@ loop-done-preserved g c =
 pub returns-in-Failed-clause-pieces : goal.returns-in-Failed-clause-pieces
 returns-in-Failed-clause-pieces g c =
     let so_far = c.loop-done.invariant.4 in
-    (so_far.0, c.in-Failed.ensures.bytes ∙ so_far.1, (c.loop-done.done, c.loop-done.invariant.0, so_far.2))
+    (so_far.0, c.in-Failed.ensures.bytes ∙ so_far.1, (c.loop-done.done, omega (arith, c.loop-done-test), so_far.2))
 
 pub returns-clause-pieces : goal.returns-clause-pieces
 returns-clause-pieces g c =
