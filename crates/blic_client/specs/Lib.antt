@@ -1,0 +1,3 @@
+pub mod Linked
+pub mod Listening
+pub mod UnderWay
