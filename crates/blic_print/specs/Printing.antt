@@ -5,13 +5,14 @@ use Rattle.hex.specs.Hex.{encode_lower}
 use Rattle.blic_basic.specs.Outside.{Rose}
 use Rattle.blic_basic.specs.Watching.{is_reply}
 use Rattle.blic_print.specs.declared.pieces.Piece.{Piece}
-use Rattle.blic_print.specs.declared.pieces.Piece.TheVariants.{Bytes, Number}
+use Rattle.blic_print.specs.declared.pieces.Piece.TheVariants.{Bytes, Hex, Number}
 use Rattle.blic_print.specs.declared.write_fault.WriteFault.{WriteFault}
 
--- bytes as they are, and a number in decimal
+-- bytes as they are, a number in decimal, and bytes in hexadecimal, in lower case
 abbrev pub piece_text : Piece → List ℕ
 piece_text (Bytes bytes) = bytes.now
 piece_text (Number n) = decimal n
+piece_text (Hex bytes) = encode_lower bytes.now
 
 abbrev pub text_of_pieces : List Piece → List ℕ
 text_of_pieces pieces = flat_map piece_text pieces

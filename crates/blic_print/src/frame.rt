@@ -45,7 +45,11 @@ fn put_line<O: Sink>(gathered: &mut Gathered, out: &mut O, frame: &[u8]) -> Resu
 }
 
 // Puts the digits of the bytes behind what waits.
-fn put_digits<O: Sink>(gathered: &mut Gathered, out: &mut O, bytes: &[u8]) -> Result<(), WriteFault>
+pub(crate) fn put_digits<O: Sink>(
+    gathered: &mut Gathered,
+    out: &mut O,
+    bytes: &[u8],
+) -> Result<(), WriteFault>
     ensures bytes { Gathers (O.held out.old) (O.held out.new) result (gathered.old ++ encode_lower bytes.now) gathered.new }
     ensures cause { PrintCounts (O.faults out.old) (O.faults out.new) result }
 {

@@ -3,6 +3,7 @@ ghost use Rattle.std.specs.Prelude.{◌≡◌, ◌++◌};
 ghost use Rattle.blic_print.specs.Gathering.{Gathers};
 ghost use Rattle.blic_print.specs.Printing.{PrintCounts, Prints, piece_text, text_of_pieces};
 
+use crate::frame::put_digits;
 use crate::gathered::Gathered;
 use crate::write_fault::WriteFault;
 use blic_basic::Sink;
@@ -15,6 +16,8 @@ pub enum Piece<'a> {
     Bytes(&'a [u8]),
     /// This number, in decimal.
     Number(u64),
+    /// These bytes in hexadecimal, two digits each, in lower case.
+    Hex(&'a [u8]),
 }
 
 /// Appends the texts of the pieces to the output, one behind another, and takes no memory for it. A text of at most 4,096 bytes is
@@ -45,5 +48,6 @@ fn put_piece<'a, O: Sink>(
     match piece {
         Piece::Bytes(bytes) => gathered.put(out, bytes),
         Piece::Number(number) => gathered.put(out, Buffer::new().format(*number).as_bytes()),
+        Piece::Hex(bytes) => put_digits(gathered, out, bytes),
     }
 }

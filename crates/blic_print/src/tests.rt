@@ -12,7 +12,7 @@ fn output(alloc: Global, most: usize, failing: &[u64], room: usize) -> Result<Me
 
 #[test]
 fn pieces_are_their_bytes_and_numbers_in_decimal(rt: HostRuntime) -> Result<(), Fail> {
-    let rows: [(&[Piece<'static>], &str); 5] = [
+    let rows: [(&[Piece<'static>], &str); 6] = [
         (&[], ""),
         (&[Piece::Bytes(b"")], ""),
         (&[Piece::Number(0)], "0"),
@@ -24,6 +24,10 @@ fn pieces_are_their_bytes_and_numbers_in_decimal(rt: HostRuntime) -> Result<(), 
                 Piece::Bytes(b"\n"),
             ],
             "c limit nodes at 607\n",
+        ),
+        (
+            &[Piece::Hex(b"\x00\x7e\xd8\xff"), Piece::Bytes(b".")],
+            "007ed8ff.",
         ),
     ];
     for (pieces, text) in rows {
