@@ -66,6 +66,7 @@ impl<'c> Conversation<'c> {
         requires answers { A.circuit answers.old ≡ self.old.about.circuit }
         requires first { first ≤ 2 ^ 61 }
         ensures same { self.new ≡ self.old }
+        ensures answers { A.circuit answers.new ≡ A.circuit answers.old }
         ensures alters { W.alters watch.new ≡ W.alters watch.old }
         ensures talk { (frames : List (List ℕ)) × Shows (W.frames watch.old) (W.frames watch.new) frames
             × IsTalk self.old (draw_from (record { seed = seed; first = first })) (W.alters watch.old) frames (O.held out.old) (O.held out.new) result }
@@ -100,6 +101,7 @@ fn hold<A: Answers, W: Watch, O: Sink, L: Ledger>(
     requires first { draws.1 ≤ 2 ^ 61 }
     ensures fitted { AreFitted machines.new }
     ensures same { IsSame machines.old machines.new }
+    ensures answers { A.circuit answers.new ≡ A.circuit answers.old }
     ensures alters { W.alters watch.new ≡ W.alters watch.old }
     ensures talk { (frames : List (List ℕ)) × Shows (W.frames watch.old) (W.frames watch.new) frames
         × IsTalk (conversing machines.old) (draw_from (record { seed = draws.0; first = draws.1 })) (W.alters watch.old) frames (O.held out.old) (O.held out.new) result }

@@ -100,6 +100,7 @@ impl<'c> Machines<'c> {
         requires begun { IsBegun self.old hello.now }
         ensures fitted { AreFitted self.new }
         ensures same { IsSame self.old self.new }
+        ensures answers { A.circuit answers.new ≡ A.circuit answers.old }
         ensures alters { W.alters watch.new ≡ W.alters watch.old }
         ensures talk { (frames : List (List ℕ)) × Shows (W.frames watch.old) (W.frames watch.new) frames
             × IsTalk (conversing self.old) (draw_from self.old.asker.draws.source) (W.alters watch.old) frames (O.held out.old) (O.held out.new) result }
@@ -125,6 +126,7 @@ impl<'c> Machines<'c> {
         requires begun { IsBegun self.old hello.now }
         ensures fitted { AreFitted self.new }
         ensures same { IsSame self.old self.new }
+        ensures answers { A.circuit answers.new ≡ A.circuit answers.old }
         ensures alters { W.alters watch.new ≡ W.alters watch.old }
         ensures way { (way : List (List ℕ)) × Shows (W.frames watch.old) (W.frames watch.new) way
             × IsWay (conversing self.old) (draw_from self.old.asker.draws.source) (W.alters watch.old) way (O.held out.old) (O.held out.new) result }

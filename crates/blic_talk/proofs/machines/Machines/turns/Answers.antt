@@ -16,6 +16,7 @@ loop-init g c = (
   refl,
   at_the_start c.args.self.now _ _ c.args.hello.now _ _ c.requires.begun (nothing_more _),
   subst (GoesOnAt _ c.args.self.now.prover.points) (sym c.requires.begun.fresh) tt,
+  refl,
 )
 
 pub returns-in-Some-Ends-clause-way : goal.returns-in-Some-Ends-clause-way
@@ -54,4 +55,5 @@ loop-preserved g c =
       onward (conversing c.args.self.now) c.loop.self c.turn.new.self (draw_from c.args.self.now.asker.draws.source) (g.W.Watch.alters c.args.watch.now) c.loop.ask c.in-Some-Asks.next _ _ _ _ _ _
           c.loop.counter w.0 w.1 w.2 ex.0 ex.1 i.1 (ap draw_from (sym i.3)) w.4 w.5 w.6 w.7 ex.2 come ex.4,
       c.in-Some-Asks.ensures.goes_on,
+      c.in-Some-Asks.ensures.answers ∙ i.8,
     )

@@ -11,3 +11,4 @@ invariant-loop g l =
     × IsOnWay (conversing l.fn.self) (draw_from l.fn.self.asker.draws.source) (g.W.Watch.alters l.fn.watch) l.self l.ask (g.W.Watch.frames l.fn.watch) (g.W.Watch.frames l.watch)
     (g.O.Sink.held l.fn.out) (g.O.Sink.held l.out) l.counter
     × GoesOn (g.A.Answers.goes_on l.answers) l.self.prover
+    × (g.A.Answers.circuit l.answers ≡ g.A.Answers.circuit l.fn.answers)
