@@ -1,7 +1,8 @@
-//! The program `blic`: it hands its arguments, the files, random bytes and standard output to `run`.
+//! The program `blic`: it hands its arguments, the files, TCP, random bytes and standard output to `run`.
 #![tactic(auto)]
 
 use blic_basic::{NoWatch, RandomFile, RealFiles, StdoutSink, Wrote, write_all_counted};
+use blic_link::TcpDialer;
 use blic_top::run;
 use std::process::ExitCode;
 use std::rt::Env;
@@ -10,6 +11,7 @@ use std::{env, io};
 fn main(rt: HostRuntime) -> ExitCode {
     let mut out = StdoutSink::new(io::writer(&rt));
     let mut files = RealFiles::new(&rt);
+    let mut dialer = TcpDialer::new(&rt);
     let mut entropy = RandomFile::new(&rt);
     let mut watch = NoWatch::new();
     let status = match words(&rt) {
@@ -17,6 +19,7 @@ fn main(rt: HostRuntime) -> ExitCode {
             rt.alloc(),
             &words,
             &mut files,
+            &mut dialer,
             &mut entropy,
             &mut watch,
             &mut out,
@@ -32,6 +35,7 @@ fn main(rt: HostRuntime) -> ExitCode {
             rt.alloc(),
             &Vec::new(rt.alloc()),
             &mut files,
+            &mut dialer,
             &mut entropy,
             &mut watch,
             &mut out,

@@ -1,5 +1,5 @@
 // What `certify` answers, prints and shows.
-use crate::running::{assert_runs, lines_of, sink, words_of};
+use crate::running::{assert_runs, lines_of, no_links, sink, words_of};
 use blic_basic::{
     Bend, BendWatch, MemEntropy, MemSink, MemWatch, NoWatch, SureEntropy, SureFiles, Watch,
 };
@@ -103,6 +103,7 @@ fn assert_watched<W: Watch>(
         alloc,
         &words,
         &mut SureFiles::new(text.as_slice()),
+        &mut no_links(alloc)?,
         &mut entropy,
         watch,
         &mut out,
@@ -184,6 +185,7 @@ fn a_reply_that_is_no_frame_has_no_line(rt: HostRuntime) -> Result<(), Fail> {
             alloc,
             &words_of(alloc, "certify f --talk")?,
             &mut SureFiles::new(text.as_slice()),
+            &mut no_links(alloc)?,
             &mut SureEntropy::new([7; 32]),
             &mut watch,
             &mut out,
@@ -220,6 +222,7 @@ fn the_seed_is_that_of_the_words_or_of_the_entropy(rt: HostRuntime) -> Result<()
             alloc,
             &words,
             &mut files,
+            &mut no_links(alloc)?,
             &mut entropy,
             &mut watch,
             &mut out,

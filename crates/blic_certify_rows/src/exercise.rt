@@ -1,5 +1,5 @@
 // What `exercise` prints and shows.
-use crate::running::{lines_of, sink, words_of};
+use crate::running::{lines_of, no_links, sink, words_of};
 use blic_basic::{Bend, BendWatch, MemWatch, NoWatch, SureEntropy, SureFiles, Watch};
 use blic_draw::Draws;
 use blic_top::run;
@@ -23,6 +23,7 @@ fn assert_exercises<W: Watch>(
         alloc,
         &words,
         &mut SureFiles::new(b""),
+        &mut no_links(alloc)?,
         &mut SureEntropy::new([7; 32]),
         watch,
         &mut out,

@@ -1,5 +1,5 @@
 // Arguments that don't fit, and faults of the files and of the output.
-use crate::running::{sink, words_of};
+use crate::running::{no_links, sink, words_of};
 use blic_basic::{Files, MemFile, MemFiles, NoWatch, SureEntropy, SureFiles};
 use blic_top::run;
 use std::alloc::Global;
@@ -23,14 +23,20 @@ fn files(
 const MISFITS: &str = "
 solve
 solve a b
+verify
 verify f
+verify f a b
+verify f a --repeat 0
+verify f a --repeat 1001
+verify f a --nodes 7
 certify
 certify f b
 certify f --seed 12
 certify f --seed 00112233445566778899aabbccddeeff00112233445566778899aabbccddeefg
 certify f --talk x
 certify f --nodes 0
-certify f --repeat 2
+certify f --repeat 0
+certify f --repeat 1001
 certify f --talk --talk
 exercise
 exercise 0
@@ -40,6 +46,7 @@ exercise 1 2
 exercise 1 --seed 12
 exercise 1 --talk
 exercise 1 --nodes 7
+exercise 1 --repeat 2
 solve --help
 solve f -- b
 solve f --node 7
@@ -66,6 +73,7 @@ fn words_that_do_not_fit_get_the_usage_line(rt: HostRuntime) -> Result<(), Fail>
                 alloc,
                 &words,
                 &mut SureFiles::new(b"p cnf 0 0\n"),
+                &mut no_links(alloc)?,
                 &mut SureEntropy::new([0; 32]),
                 &mut NoWatch::new(),
                 &mut out
@@ -101,6 +109,7 @@ fn a_fault_of_the_files_is_a_read_fault(rt: HostRuntime) -> Result<(), Fail> {
                 alloc,
                 &words,
                 &mut files,
+                &mut no_links(alloc)?,
                 &mut SureEntropy::new([0; 32]),
                 &mut NoWatch::new(),
                 &mut out
@@ -128,6 +137,7 @@ fn a_fault_of_the_output_leaves_a_front_of_the_line(rt: HostRuntime) -> Result<(
             alloc,
             &words,
             &mut files,
+            &mut no_links(alloc)?,
             &mut entropy,
             &mut watch,
             &mut out,

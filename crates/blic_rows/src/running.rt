@@ -1,5 +1,8 @@
 // Running the program over files and an output in memory.
+ghost use Rattle.std.specs.Prelude.{◌≡◌, IfOk, false};
+
 use blic_basic::{MemSink, NoWatch, SureEntropy, SureFiles};
+use blic_link::MemDialer;
 use blic_top::run;
 use std::alloc::{AllocError, Global};
 use std::process::Abort;
@@ -15,6 +18,13 @@ pub(crate) fn words_of(alloc: Global, words: &str) -> Result<Vec<String>, AllocE
 
 pub(crate) fn sink(alloc: Global, failing: Vec<u64>, room: usize) -> Result<MemSink, Fail> {
     Ok(MemSink::new(alloc, 7, failing, room).map_err(|_| "memory")?)
+}
+
+// A dialer that has no links.
+pub(crate) fn no_links(alloc: Global) -> Result<MemDialer, Fail>
+    ensures free { IfOk result (λ d. d.is_lent ≡ false) }
+{
+    Ok(MemDialer::new(alloc, Vec::new(alloc), Vec::new(alloc)).map_err(|_| "memory")?)
 }
 
 // The text in which a slash stands for the end of a line, and a percent sign for a carriage return.
@@ -48,6 +58,7 @@ pub(crate) fn assert_runs(
         alloc,
         &words,
         &mut SureFiles::new(file),
+        &mut no_links(alloc)?,
         &mut entropy,
         &mut NoWatch::new(),
         &mut out,

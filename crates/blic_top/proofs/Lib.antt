@@ -1,10 +1,17 @@
 mod Asking
 mod Certified
+mod Coursing
 mod DrawCount
 mod Exercised
+mod Led
+mod Linking
 mod Promised
+mod Quiet
 mod Running
+mod Saying
 mod Spelling
 mod Stopping
 mod Subjects
 mod Texts
+mod Traces
+mod Truly

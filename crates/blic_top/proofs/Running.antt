@@ -1,11 +1,13 @@
 -- What a run may say, by what holds of its problems.
-use Rattle.std.proofs.Common.{◌≡◌, ℕ, List, [], ◌∷◌, Option, Some, None, Bool, true, false, sym, ◌∙◌, ap, refl, inl, inr, subst, ◌⊎◌}
+use Rattle.std.proofs.Common.{◌≡◌, ℕ, List, [], ◌∷◌, Some, None, Bool, true, false, sym, ◌∙◌, ap, refl, inl, inr, subst, ◌⊎◌}
 use Rattle.blic_qdimacs.specs.declared.error.ReadError.{ReadError}
 use Rattle.blic_words.specs.declared.options.Options.{Options}
-use Rattle.blic_words.specs.Requests.{Request, Solve, Certify, Exercise}
+use Rattle.blic_words.specs.Requests.{Request, Solve, Certify, Verify, Exercise}
 use Rattle.blic_input.specs.Problem.{Problem}
-use Rattle.blic_top.specs.Deed.{Told, Deed}
-use Rattle.blic_top.specs.Jobs.{Solving, Certifying, Exercising, Job, chain_problem, draws_about, exercise_job, exercise_seed, first_job, later_jobs}
+use Rattle.blic_top.specs.Deed.{Told, Deed, IsSeedOf}
+use Rattle.blic_top.specs.Jobs.{Solving, Certifying, Verifying, Exercising, Job, chain_problem, exercise_job, exercise_seed, exercise_series, first_job, later_jobs, series_of}
+use Rattle.blic_top.specs.Series.{Series, draws_about, draws_of}
+use Rattle.blic_top.specs.Conversing.{InProcess, OverLink}
 use Rattle.blic_input.specs.Tasks.{Given, Asked}
 use Rattle.blic_input.specs.Stops.{IsSubject, CanStart}
 use Rattle.blic_input.specs.Known.{IsNamed, IsRefused, PassesLimit}
@@ -14,9 +16,10 @@ use Rattle.blic_top.specs.Means.{SaysAll, Means, goes_on}
 use Rattle.blic_top.specs.Outcome.{end_status, status_of, truth_status}
 use Rattle.blic_top.specs.Promises.{IsOrNoMemory}
 use Rattle.blic_top.specs.declared.outcome.End.{End}
-use Rattle.blic_top.specs.declared.outcome.End.TheVariants.{Solved, Certified, Exercised, Failed}
+use Rattle.blic_top.specs.declared.outcome.End.TheVariants.{Solved, Certified, Exercised, Failed, Differ}
 use Rattle.blic_top.specs.declared.outcome.Outcome.{Outcome}
 use Rattle.blic_top.specs.declared.outcome.Outcome.TheVariants.{Usage, NoMemory, Stopped, Done}
+use Rattle.blic_top.proofs.Truly.{Any, IsGood, IsTrueEnd, true_end, truth_here, truth_over}
 use Rattle.blic_top.proofs.Stopping.{IsReadCalm, IsSeedCalm, same_subject, refused_or_subject, start_or_past, stop_or_memory, stop_past, stop_refused}
 
 pub usage_by : (told : Told) (deed : Deed) (outcome : Outcome) → Means None told deed outcome → IsOrNoMemory (status_of outcome) 1
@@ -96,10 +99,11 @@ refused_by r told deed outcome error means refused calm = first_refused (first_j
 -- ---- `solve`
 
 solved : (p : Problem) (alters : Bool) (deed : Deed) (end : End) → Ends Solving p alters deed end → end_status end ≡ truth_status p.truth
-solved p alters deed (Solved a) ends = ap truth_status ends.0.0
+solved p alters deed (Solved a) ends = ap truth_status ends.0
 solved p alters deed (Certified a n) ends = absurd ends
 solved p alters deed (Exercised a n) ends = absurd ends
 solved p alters deed (Failed failure) ends = absurd ends
+solved p alters deed Differ ends = absurd ends
 
 pub solve_by : (file : List ℕ) (o : Options) (told : Told) (deed : Deed) (outcome : Outcome) (p : Problem) → Means (Some (Solve file o)) told deed outcome
     → IsNamed told.files (first_job (Solve file o)).task.subject p → CanStart p (first_job (Solve file o)).task → IsReadCalm (first_job (Solve file o)).task (status_of outcome) → IsSeedCalm (first_job (Solve file o)).task (status_of outcome)
@@ -112,30 +116,54 @@ solve_by file o told deed outcome p means named can calm still =
 
 -- ---- `certify`
 
-certified : (given : Option (List ℕ)) (first : ℕ) (talk : Bool) (p : Problem) (alters : Bool) (deed : Deed) (end : End) → Ends (Certifying given first talk) p alters deed end → alters ≡ false
-    → end_status end ≡ truth_status p.truth
-certified given first talk p alters deed (Solved a) ends honest = absurd ends
-certified given first talk p alters deed (Certified a n) ends honest = ap truth_status (ends.0.truly honest)
-certified given first talk p alters deed (Exercised a n) ends honest = absurd ends
-certified given first talk p alters deed (Failed failure) ends honest = let e : true ≡ false = sym ends.0.1 ∙ honest in absurd cc
+true_status : (end : End) (t : Bool) → IsTrueEnd end t → end_status end ≡ truth_status t
+true_status end t it = ap end_status it.is ∙ ap truth_status it.truly
+
+-- where nothing is altered, the truth is certified
+pub certified_truly : (s : Series) (p : Problem) (alters : Bool) (deed : Deed) (end : End) → Ends (Certifying s) p alters deed end → alters ≡ false → IsTrueEnd end p.truth
+certified_truly s p alters deed end (seed, is, concludes) honest =
+    true_end (InProcess p (draws_of p seed s.first) alters s.talk) Any p.truth (truth_here p (draws_of p seed s.first) alters s.talk honest) p s.count deed.trace end concludes tt
 
 pub certify_by : (file : List ℕ) (o : Options) (told : Told) (deed : Deed) (outcome : Outcome) (p : Problem) → Means (Some (Certify file o)) told deed outcome
     → IsNamed told.files (first_job (Certify file o)).task.subject p → CanStart p (first_job (Certify file o)).task → told.alters ≡ false → IsReadCalm (first_job (Certify file o)).task (status_of outcome) → IsSeedCalm (first_job (Certify file o)).task (status_of outcome)
     → IsOrNoMemory (status_of outcome) (truth_status p.truth)
 certify_by file o told deed outcome p means named can honest calm still =
     elim (says_end (first_job (Certify file o)) told deed outcome p means named can calm still) [
-      | inl (end, is, ends) ↦ inl (ap status_of is ∙ certified o.seed 0 o.talk p told.alters deed end ends honest)
+      | inl (end, is, ends) ↦ inl (ap status_of is ∙ true_status end p.truth (certified_truly (series_of o) p told.alters deed end ends honest))
+      | inr memory ↦ inr memory
+    ]
+
+-- ---- `verify`
+
+-- where no dial and no call of a link failed, and honest replies came, the truth is certified
+verified_truly : (o : Options) (p : Problem) (alters : Bool) (deed : Deed) (end : End) (seed : List ℕ) → Ends (Verifying (series_of o)) p alters deed end
+    → ((seed_of_deed : List ℕ) → IsSeedOf o.seed deed seed_of_deed → seed_of_deed ≡ seed) → IsGood p seed 0 deed.trace → IsTrueEnd end p.truth
+verified_truly o p alters deed end seed (taken, is, concludes) same good =
+    true_end (OverLink p (draws_of p taken 0) o.talk) (IsGood p taken) p.truth (truth_over p taken o.talk) p o.repeat deed.trace end concludes
+    (subst (λ s. IsGood p s 0 deed.trace) (sym (same taken is)) good)
+
+pub verify_by : (file address : List ℕ) (o : Options) (told : Told) (deed : Deed) (outcome : Outcome) (p : Problem) (seed : List ℕ) → Means (Some (Verify file address o)) told deed outcome
+    → IsNamed told.files (first_job (Verify file address o)).task.subject p → CanStart p (first_job (Verify file address o)).task
+    → IsReadCalm (first_job (Verify file address o)).task (status_of outcome) → IsSeedCalm (first_job (Verify file address o)).task (status_of outcome)
+    → ((seed_of_deed : List ℕ) → IsSeedOf o.seed deed seed_of_deed → seed_of_deed ≡ seed) → IsGood p seed 0 deed.trace → IsOrNoMemory (status_of outcome) (truth_status p.truth)
+verify_by file address o told deed outcome p seed means named can calm still same good =
+    elim (says_end (first_job (Verify file address o)) told deed outcome p means named can calm still) [
+      | inl (end, is, ends) ↦ inl (ap status_of is ∙ true_status end p.truth (verified_truly o p told.alters deed end seed ends same good))
       | inr memory ↦ inr memory
     ]
 
 -- ---- `exercise`
 
-exercised : (seed : List ℕ) (first : ℕ) (p : Problem) (alters : Bool) (deed : Deed) (end : End) → Ends (Exercising seed first) p alters deed end → alters ≡ false
+exercised : (s : Series) (p : Problem) (alters : Bool) (deed : Deed) (end : End) → Ends (Exercising s) p alters deed end → alters ≡ false
     → (goes_on (Done end) ≡ true) × (end_status end ≡ 0)
-exercised seed first p alters deed (Solved a) ends honest = absurd ends
-exercised seed first p alters deed (Certified a n) ends honest = absurd ends
-exercised seed first p alters deed (Exercised a n) ends honest = (refl, refl)
-exercised seed first p alters deed (Failed failure) ends honest = let e : true ≡ false = sym ends.0.1 ∙ honest in absurd cc
+exercised s p alters deed (Solved a) ends honest = absurd ends
+exercised s p alters deed (Certified a n) ends honest = absurd ends
+exercised s p alters deed (Exercised a n) ends honest = (refl, refl)
+exercised s p alters deed (Failed failure) ends honest = absurd (no_end (certified_truly s p alters deed (Failed failure) ends honest))
+  where
+    no_end : IsTrueEnd (Failed failure) p.truth → ⊥
+    no_end it = cc it.is
+exercised s p alters deed Differ ends honest = absurd ends
 
 -- neither a file nor entropy is asked
 read_calm : (pairs : ℕ) (o : Options) (t : Bool) (first status : ℕ) → IsReadCalm (exercise_job pairs o t first).task status
@@ -155,7 +183,7 @@ second_or_memory pairs o told deed outcome means can honest =
     elim means [
       | inl (stops, one) ↦ elim (says_end (exercise_job pairs o true 0) told deed outcome (chain_problem pairs true) one refl can (read_calm pairs o true 0 (status_of outcome)) (seed_calm pairs o true 0 (status_of outcome))) [
         | inl (end, is, ends) ↦
-            let goes = (exercised (exercise_seed o) 0 (chain_problem pairs true) told.alters deed end ends honest).0 in
+            let goes = (exercised (exercise_series o 0) (chain_problem pairs true) told.alters deed end ends honest).0 in
             let e : false ≡ true = sym stops ∙ (ap goes_on is ∙ goes) in
             absurd cc
         | inr memory ↦ inr memory
@@ -170,7 +198,7 @@ exercise_by pairs o told deed outcome means can can_second honest =
     let n = draws_about (chain_problem pairs true) in
     elim (second_or_memory pairs o told deed outcome means can honest) [
       | inl (late, says) ↦ elim (says_end (exercise_job pairs o false n) told late outcome (chain_problem pairs false) says refl can_second (read_calm pairs o false n (status_of outcome)) (seed_calm pairs o false n (status_of outcome))) [
-        | inl (end, is, ends) ↦ inl (ap status_of is ∙ (exercised (exercise_seed o) n (chain_problem pairs false) told.alters late end ends honest).1)
+        | inl (end, is, ends) ↦ inl (ap status_of is ∙ (exercised (exercise_series o n) (chain_problem pairs false) told.alters late end ends honest).1)
         | inr memory ↦ inr memory
       ]
       | inr memory ↦ inr memory

@@ -1,5 +1,5 @@
 -- The texts of pieces, as the outcomes' texts are written.
-use Rattle.std.proofs.Common.{◌≡◌, ℕ, List, ◌++◌, append_assoc, subst, codes, Option}
+use Rattle.std.proofs.Common.{◌≡◌, ℕ, List, ◌++◌, append_assoc, ap, ◌∙◌, subst, codes, Option}
 use Rattle.std.specs.Prelude.{Result}
 use Rattle.blic_print.specs.Printing.{Prints}
 use Rattle.blic_input.specs.StopTexts.{line_end}
@@ -30,7 +30,20 @@ pub leaf_text : (node claim : List ℕ)
     ≡ codes "c rejected node " ++ node ++ (codes " leaf claim " ++ claim) ++ line_end
 leaf_text node claim = simp append_assoc
 
-pub certified_text : (mark answer vars clauses draws bad : List ℕ) → mark ≡ answer
-    → mark ++ (vars ++ (codes " " ++ (clauses ++ (codes "\nruns 1\ndraws " ++ (draws ++ (codes "\nbad " ++ (bad ++ line_end)))))))
-    ≡ (answer ++ vars ++ codes " " ++ clauses ++ line_end) ++ (codes "runs 1" ++ line_end ++ codes "draws " ++ draws ++ line_end ++ codes "bad " ++ bad ++ line_end)
-certified_text mark answer vars clauses draws bad same = rw same (simp append_assoc)
+pub certified_text : (mark answer vars clauses runs draws bad : List ℕ) → mark ≡ answer
+    → mark ++ (vars ++ (codes " " ++ (clauses ++ (codes "\nruns " ++ (runs ++ (codes "\ndraws " ++ (draws ++ (codes "\nbad " ++ (bad ++ line_end)))))))))
+    ≡ (answer ++ vars ++ codes " " ++ clauses ++ line_end) ++ (codes "runs " ++ runs ++ line_end ++ codes "draws " ++ draws ++ line_end ++ codes "bad " ++ bad ++ line_end)
+certified_text mark answer vars clauses runs draws bad same = rw same (simp append_assoc)
+
+hello_parts : (a b c d rest : List ℕ) → a ++ (codes " " ++ (b ++ (codes " " ++ (c ++ (codes " " ++ (d ++ rest)))))) ≡ (a ++ codes " " ++ b ++ codes " " ++ c ++ codes " " ++ d) ++ rest
+hello_parts a b c d rest = simp append_assoc
+
+pub not_served_text : (a b c d e f g h : List ℕ)
+    → codes "c server refused NotServed ours " ++ (a ++ (codes " " ++ (b ++ (codes " " ++ (c ++ (codes " " ++ (d ++ (codes " theirs " ++ (e ++ (codes " " ++ (f ++ (codes " " ++ (g ++ (codes " " ++ (h ++ line_end)))))))))))))))
+    ≡ codes "c server refused " ++ (codes "NotServed ours " ++ (a ++ codes " " ++ b ++ codes " " ++ c ++ codes " " ++ d) ++ codes " theirs " ++ (e ++ codes " " ++ f ++ codes " " ++ g ++ codes " " ++ h)) ++ line_end
+not_served_text a b c d e f g h =
+    ap (λ t. codes "c server refused NotServed ours " ++ t) (hello_parts a b c d _ ∙ ap (λ t. (a ++ codes " " ++ b ++ codes " " ++ c ++ codes " " ++ d) ++ (codes " theirs " ++ t)) (hello_parts e f g h line_end))
+    ∙ spread (codes "NotServed ours ") (a ++ codes " " ++ b ++ codes " " ++ c ++ codes " " ++ d) (codes " theirs ") (e ++ codes " " ++ f ++ codes " " ++ g ++ codes " " ++ h)
+  where
+    spread : (u v w x : List ℕ) → codes "c server refused " ++ (u ++ (v ++ (w ++ (x ++ line_end)))) ≡ codes "c server refused " ++ (u ++ v ++ w ++ x) ++ line_end
+    spread u v w x = simp append_assoc

@@ -1,3 +1,4 @@
+pub mod Conversing
 pub mod Deciding
 pub mod Deed
 pub mod Ends
@@ -6,3 +7,5 @@ pub mod Jobs
 pub mod Means
 pub mod Outcome
 pub mod Promises
+pub mod Series
+pub mod Turning

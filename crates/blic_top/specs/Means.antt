@@ -54,12 +54,12 @@ IsPrintingFor None told deed piece = ⊥
 
 -- a call on the output failed while this piece was printed: all that stands before it is appended whole, and a prefix of the piece
 abbrev pub IsCutOff : Deed → List ℕ → Option (List ℕ) → Option (List ℕ) → Type 0
-IsCutOff deed piece old new = (n : ℕ) × (new ≡ append_known old (deed.lines ++ take n piece))
+IsCutOff deed piece old new = (n : ℕ) × (new ≡ append_known old (deed.trace.lines ++ take n piece))
 
 -- some outcome came, its status is answered, and its whole text is appended behind the lines before it; or the status is 4, and a call on
 -- the output failed at the outcome's text or at a piece before it
 abbrev pub Runs : Option Request → Told → Deed → ℕ → Option (List ℕ) → Option (List ℕ) → Type 0
 Runs request told deed status old new =
-    ((outcome : Outcome) × Means request told deed outcome × (status ≡ status_of outcome) × (new ≡ append_known old (deed.lines ++ text_of outcome)))
+    ((outcome : Outcome) × Means request told deed outcome × (status ≡ status_of outcome) × (new ≡ append_known old (deed.trace.lines ++ text_of outcome)))
     ⊎ ((status ≡ 4) × ((outcome : Outcome) × Means request told deed outcome × IsCutOff deed (text_of outcome) old new))
     ⊎ ((status ≡ 4) × ((piece : List ℕ) × IsPrintingFor request told deed piece × IsCutOff deed piece old new))

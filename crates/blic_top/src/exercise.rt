@@ -1,11 +1,12 @@
 // Certifying two large formulas that are made from a number, one after the other.
 ghost use Rattle.std.specs.Prelude.{◌≡◌, ◌≤◌, ◌^◌, ℕ, None, Some};
 ghost use Rattle.blic_top.specs.Deciding.{Decides, DecidesAll, exercised_draws, of_one};
-ghost use Rattle.blic_top.specs.Deed.{Deed, IsDeed};
+ghost use Rattle.blic_top.specs.Deed.{Deed};
 ghost use Rattle.blic_input.specs.Faults.{Counts, Entropy as TheEntropy, Files as TheFiles};
 ghost use Rattle.blic_input.specs.Stops.{ToldFiles};
 ghost use Rattle.blic_top.specs.Faults.{WriteCounts, fault_in};
 ghost use Rattle.blic_top.specs.Jobs.{exercise_job};
+ghost use Rattle.blic_top.specs.Turning.{IsDoneHere};
 ghost use Rattle.blic_words.specs.Requests.{Exercise};
 
 use crate::certify::{CertifyOptions, certify_problem};
@@ -30,7 +31,7 @@ pub(crate) fn exercise<E: Entropy, W: Watch, O: Sink>(
     out: &mut O,
 ) -> Option<Outcome>
     requires pairs { (1 ≤ pairs) × (pairs ≤ 500) }
-    ensures decides { (deed : Deed) × IsDeed (E.seeds entropy.old) (E.seeds entropy.new) (W.frames watch.old) (W.frames watch.new) deed
+    ensures decides { (deed : Deed) × IsDoneHere (E.seeds entropy.old) (E.seeds entropy.new) (W.frames watch.old) (W.frames watch.new) deed
         × ((files : ToldFiles) → DecidesAll (Some (Exercise pairs options.now))
         (record { files = files; alters = W.alters watch.old }) deed (O.held out.old) (O.held out.new) result) }
     ensures entropy_cause { Counts TheEntropy (fault_in result) (E.faults entropy.old) (E.faults entropy.new) }
@@ -74,9 +75,9 @@ fn exercise_one<E: Entropy, W: Watch, O: Sink>(
     out: &mut O,
 ) -> Option<Outcome>
     requires pairs { (1 ≤ pairs) × (pairs ≤ 500) }
-    requires first { first ≤ 2 ^ 61 }
+    requires first { first ≤ 2 ^ 60 }
     ensures alters { W.alters watch.new ≡ W.alters watch.old }
-    ensures decides { (deed : Deed) × IsDeed (E.seeds entropy.old) (E.seeds entropy.new) (W.frames watch.old) (W.frames watch.new) deed
+    ensures decides { (deed : Deed) × IsDoneHere (E.seeds entropy.old) (E.seeds entropy.new) (W.frames watch.old) (W.frames watch.new) deed
         × Decides (exercise_job pairs options.now truth first) (record { files = None; alters = W.alters watch.old }) deed (O.held out.old) (O.held out.new) result }
     ensures entropy_cause { Counts TheEntropy (fault_in result) (E.faults entropy.old) (E.faults entropy.new) }
     ensures write_cause { WriteCounts result (O.faults out.old) (O.faults out.new) }
@@ -93,6 +94,7 @@ fn exercise_one<E: Entropy, W: Watch, O: Sink>(
     let options = CertifyOptions {
         options: Options {
             seed: Some(seed),
+            repeat: 1,
             talk: false,
             ..*options
         },

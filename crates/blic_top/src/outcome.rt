@@ -2,11 +2,13 @@
 ghost use Rattle.std.specs.Prelude.{◌≡◌, ◌++◌, cond, codes, decimal};
 ghost use Rattle.blic_input.specs.StopTexts.{line_end};
 ghost use Rattle.blic_verifier.specs.declared.place.Part.TheVariants.{Poly as PolyOf};
-ghost use Rattle.blic_top.specs.Outcome.{answer_text, check_text, end_status, end_text, failure_status as status_of_failure, failure_text, status_of, tally_text, text_of, truth_status as status_of_truth};
+ghost use Rattle.blic_top.specs.Outcome.{answer_text, check_text, end_status, end_text, failure_status as status_of_failure, failure_text, refusal_text, status_of, tally_text, text_of, truth_status as status_of_truth};
+ghost use Rattle.blic_messages.specs.declared.reply.Refusal.TheVariants.{NotServed as NotServedOf};
 ghost use Rattle.blic_print.specs.Printing.{Prints, PrintCounts};
 
 use blic_basic::Sink;
 use blic_input::Stop;
+use blic_messages::{Hello, Refusal};
 use blic_print::{Piece, WriteFault, print_pieces};
 use blic_verifier::{Part, Place};
 
@@ -21,6 +23,12 @@ pub enum Failure {
     WrongCount(u64, u32, u32),
     /// A reply is no frame.
     NotFrame,
+    /// The server refused to go on. Beside it stands what it was asked for.
+    Refused(Refusal, Hello),
+    /// The link ended while a reply was awaited.
+    Cut,
+    /// A call on the link failed, or no link could be made.
+    LinkFault,
 }
 
 /// What the answer line of QDIMACS says: the truth, and the numbers of variables and of clauses.
@@ -31,9 +39,10 @@ pub struct Answer {
     pub clauses: u32,
 }
 
-/// How many draws a conversation has, and at most how many bad elements they have in all.
+/// How many conversations there were, how many draws each has, and at most how many bad elements those have in all.
 #[derive(Clone, Copy, Debug, PartialEq, Eq)]
 pub struct Tally {
+    pub runs: u32,
     pub draws: u64,
     pub bad: u64,
 }
@@ -47,8 +56,10 @@ pub enum End {
     Certified(Answer, Tally),
     /// The same, of a formula of an exercise.
     Exercised(Answer, Tally),
-    /// The conversation was not accepted.
+    /// A conversation was not accepted.
     Failed(Failure),
+    /// A conversation was accepted with another answer than the first one.
+    Differ,
 }
 
 /// How a command ended.
@@ -105,6 +116,7 @@ impl End {
             End::Certified(answer, _) => truth_status(answer.truth),
             End::Exercised(_, _) => 0,
             End::Failed(failure) => failure_status(failure),
+            End::Differ => 15,
         }
     }
 
@@ -140,6 +152,7 @@ impl End {
                 ],
             ),
             End::Failed(failure) => print_failure(out, failure),
+            End::Differ => print_pieces(out, &[Piece::Bytes(b"c runs differ\n")]),
         }
     }
 }
@@ -151,7 +164,8 @@ fn truth_status(truth: bool) -> u8
     if truth { 10 } else { 20 }
 }
 
-// 13 for what is no frame, 6 for a reply that the verifier refuses.
+// 13 for what is no frame, 6 for a reply that the verifier refuses, 7 for a refusal of the server, 12 for a link that ended, 5 for one
+// that failed.
 fn failure_status(failure: Failure) -> u8
     ensures { result ≡ status_of_failure failure }
 {
@@ -160,6 +174,9 @@ fn failure_status(failure: Failure) -> u8
         Failure::WrongKind(_) => 6,
         Failure::WrongCount(_, _, _) => 6,
         Failure::NotFrame => 13,
+        Failure::Refused(_, _) => 7,
+        Failure::Cut => 12,
+        Failure::LinkFault => 5,
     }
 }
 
@@ -189,7 +206,9 @@ fn print_certified<O: Sink>(out: &mut O, answer: Answer, tally: Tally) -> Result
             Piece::Number(answer.vars as u64),
             Piece::Bytes(b" "),
             Piece::Number(answer.clauses as u64),
-            Piece::Bytes(b"\nruns 1\ndraws "),
+            Piece::Bytes(b"\nruns "),
+            Piece::Number(tally.runs as u64),
+            Piece::Bytes(b"\ndraws "),
             Piece::Number(tally.draws),
             Piece::Bytes(b"\nbad "),
             Piece::Number(tally.bad),
@@ -226,7 +245,59 @@ fn print_failure<O: Sink>(out: &mut O, failure: Failure) -> Result<(), WriteFaul
             ],
         ),
         Failure::NotFrame => print_pieces(out, &[Piece::Bytes(b"c not a frame\n")]),
+        Failure::Refused(refusal, ours) => print_refusal(out, refusal, ours),
+        Failure::Cut => print_pieces(out, &[Piece::Bytes(b"c link cut\n")]),
+        Failure::LinkFault => print_pieces(out, &[Piece::Bytes(b"c link fault\n")]),
     }
+}
+
+// Why a server went on no further.
+fn print_refusal<O: Sink>(out: &mut O, refusal: Refusal, ours: Hello) -> Result<(), WriteFault>
+    ensures bytes { Prints (O.held out.old) (O.held out.new) result (codes "c server refused " ++ refusal_text refusal ours ++ line_end) }
+    ensures cause { PrintCounts (O.faults out.old) (O.faults out.new) result }
+{
+    match refusal {
+        Refusal::OutOfTurn => print_pieces(out, &[Piece::Bytes(b"c server refused OutOfTurn\n")]),
+        Refusal::NothingLeft => print_pieces(
+            out,
+            &[Piece::Bytes(b"c server refused NothingLeft\n")],
+        ),
+        Refusal::NotServed(theirs) => print_not_served(out, &ours, &theirs),
+        Refusal::Broken => print_pieces(out, &[Piece::Bytes(b"c server refused Broken\n")]),
+    }
+}
+
+// What was asked for, and what the server says that it serves.
+fn print_not_served<'h, O: Sink>(
+    out: &mut O,
+    ours: &'h Hello,
+    theirs: &'h Hello,
+) -> Result<(), WriteFault>
+    ensures bytes { Prints (O.held out.old) (O.held out.new) result (codes "c server refused " ++ refusal_text (NotServedOf theirs.now) ours.now ++ line_end) }
+    ensures cause { PrintCounts (O.faults out.old) (O.faults out.new) result }
+{
+    print_pieces(
+        out,
+        &[
+            Piece::Bytes(b"c server refused NotServed ours "),
+            Piece::Number(ours.wire as u64),
+            Piece::Bytes(b" "),
+            Piece::Number(ours.circuit as u64),
+            Piece::Bytes(b" "),
+            Piece::Number(ours.order as u64),
+            Piece::Bytes(b" "),
+            Piece::Hex(&ours.digest),
+            Piece::Bytes(b" theirs "),
+            Piece::Number(theirs.wire as u64),
+            Piece::Bytes(b" "),
+            Piece::Number(theirs.circuit as u64),
+            Piece::Bytes(b" "),
+            Piece::Number(theirs.order as u64),
+            Piece::Bytes(b" "),
+            Piece::Hex(&theirs.digest),
+            Piece::Bytes(b"\n"),
+        ],
+    )
 }
 
 // The first check that fails.

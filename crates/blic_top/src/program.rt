@@ -3,20 +3,23 @@ ghost use Rattle.std.specs.Prelude.{◌≡◌, ◌≢◌, ℕ, Bool, Some, None,
 ghost use Rattle.blic_basic.specs.Outside.{Rose};
 ghost use Rattle.blic_input.specs.Faults.{Counts, Entropy as TheEntropy, Files as TheFiles};
 ghost use Rattle.blic_input.specs.Tasks.{Made};
-ghost use Rattle.blic_words.specs.Requests.{Certify, Solve, request_of};
+ghost use Rattle.blic_words.specs.Requests.{Certify, HasRepeat, Solve, request_of};
 ghost use Rattle.blic_top.specs.Deciding.{DecidesAll};
 ghost use Rattle.blic_top.specs.Deed.{Deed, nothing, IsDeed};
 ghost use Rattle.blic_top.specs.Ends.{Says};
 ghost use Rattle.blic_top.specs.Faults.{WriteCounts, fault_in, fault_of};
 ghost use Rattle.blic_top.specs.Jobs.{first_job, limits_of, solve_job};
 ghost use Rattle.blic_top.specs.Means.{Runs};
-ghost use Rattle.blic_top.specs.Promises.{Certifies, Exercises, IsOrNoMemory, Limits, LimitsSecond, Refuses, Solves, Tells, TellsCertified};
+ghost use Rattle.blic_top.specs.Turning.{IsDoneHere};
+ghost use Rattle.blic_top.specs.Promises.{Certifies, Exercises, IsOrNoMemory, Limits, LimitsSecond, Refuses, Solves, Tells, TellsCertified, Verifies};
 
 use crate::certify::{CertifyOptions, certify_problem, limits_by};
 use crate::exercise::exercise;
 use crate::outcome::{Answer, End, Outcome};
+use crate::verify::{Target, verify};
 use blic_basic::{Entropy, Files, NoMem, Sink, Watch};
 use blic_input::Problem;
+use blic_link::Dialer;
 use blic_print::WriteFault;
 use blic_words::{Options, Request, parse};
 use std::alloc::Global;
@@ -32,8 +35,13 @@ use std::alloc::Global;
 /// `certify FILE` solves the formula within the same limits, and has a prover, who answers by what was
 /// solved, and a verifier hold a conversation about the formula's circuit. Each frame is shown to `watch`, and
 /// the verifier judges each reply as `watch` left it. If it accepts, the answer line is printed with the statuses of `solve`,
-/// and then `runs 1`, `draws D` and `bad B`. The draws (challenges) are those of the seed that `--seed` gives as 64 hexadecimal
-/// digits, or of the next one of `entropy`. With `--talk` a line for each frame comes first: the transcript.
+/// and then `runs K`, `draws D` and `bad B`. The draws (challenges) are those of the seed that `--seed` gives as 64 hexadecimal
+/// digits, or of the next one of `entropy`. With `--talk` a line for each frame comes first: the transcript. With `--repeat K`, from 1
+/// to 1,000, as many conversations are held, each with draws of its own, and all have to certify the same answer.
+///
+/// `verify FILE ADDR` solves nothing: the prover is a server at an address such as `host:port`, which nobody has to trust. A link is
+/// dialed by `dialer` for each conversation, and hung up after it. All memory is taken before the seed, and the seed before the first
+/// dial. A call on a link waits as long as the server does. The options are `--seed`, `--talk` and `--repeat`.
 ///
 /// `exercise N` certifies two formulas of `N` pairs of variables, from 1 to 500, as `certify` does within the
 /// default limits: `xor_chain` of `blic_gen`, the true one and then the false one. It prints a line for each as soon as it is
@@ -47,31 +55,42 @@ use std::alloc::Global;
 /// | 2 | the file spells no formula within the limits |
 /// | 3 | a call on the files or on the opened file failed |
 /// | 4 | a call on `out` failed; it holds a prefix of what was to be printed |
-/// | 6 | the verifier refused a reply that `watch` had altered |
+/// | 5 | a dial or a call on a link failed |
+/// | 6 | the verifier refused a reply: the server's, or one that `watch` had altered |
+/// | 7 | the server refused to go on |
 /// | 8 | the formula's circuit passes a limit of circuits, or else one of solving |
 /// | 9 | out of memory |
 /// | 11 | `entropy` failed |
-/// | 13 | `watch` left a reply that is no frame |
-pub fn run<F: Files, E: Entropy, W: Watch, O: Sink>(
+/// | 12 | a link ended while a reply was awaited |
+/// | 13 | a reply is no frame |
+/// | 15 | a conversation was accepted with another answer than the first |
+pub fn run<F: Files, D: Dialer, E: Entropy, W: Watch, O: Sink>(
     alloc: Global,
     words: &Vec<String>,
     files: &mut F,
+    dialer: &mut D,
     entropy: &mut E,
     watch: &mut W,
     out: &mut O,
 ) -> u8
+    // No link is lent.
+    requires free { D.is_lent dialer.old ≡ false }
+    ensures free { D.is_lent dialer.new ≡ false }
+
     // 10 and 20 of `solve` tell the truth of the formula that the file spells, whatever failed; so do they of `certify`, if the watch
     // alters nothing.
     ensures tells { Tells (request_of (map string_bytes words.now.items)) (F.files files.old) result }
     ensures tells_certified { TellsCertified (request_of (map string_bytes words.now.items)) (record { files = F.files files.old; alters = W.alters watch.old }) result }
 
     // Everything printed is true, and belongs to what was done outside.
-    ensures says { (deed : Deed) × IsDeed (E.seeds entropy.old) (E.seeds entropy.new) (W.frames watch.old) (W.frames watch.new) deed
+    ensures says { (deed : Deed) × IsDeed (record { seeds = E.seeds entropy.old; seen = W.frames watch.old; dialer = record { ended = D.entries dialer.old; missed = D.missed dialer.old; faults = D.faults dialer.old } })
+        (record { seeds = E.seeds entropy.new; seen = W.frames watch.new; dialer = record { ended = D.entries dialer.new; missed = D.missed dialer.new; faults = D.faults dialer.new } }) deed
         × Runs (request_of (map string_bytes words.now.items)) (record { files = F.files files.old; alters = W.alters watch.old }) deed result (O.held out.old) (O.held out.new) }
 
     // A fault is told only if there was one, and none is passed over.
     ensures read_fault { result ≡ 3 → Rose (F.faults files.old) (F.faults files.new) }
     ensures write_fault { result ≡ 4 → Rose (O.faults out.old) (O.faults out.new) }
+    ensures link_fault { result ≡ 5 → Rose (D.faults dialer.old) (D.faults dialer.new) }
     ensures entropy_fault { result ≡ 11 → Rose (E.faults entropy.old) (E.faults entropy.new) }
     ensures passes_no_fault { result ≢ 3 → result ≢ 4 → F.faults files.new ≡ F.faults files.old }
     ensures passes_no_entropy_fault { result ≢ 11 → result ≢ 4 → E.faults entropy.new ≡ E.faults entropy.old }
@@ -84,6 +103,11 @@ pub fn run<F: Files, E: Entropy, W: Watch, O: Sink>(
     ensures certifies { ¬ (Rose (F.faults files.old) (F.faults files.new)) → ¬ (Rose (O.faults out.old) (O.faults out.new))
         → ¬ (Rose (E.faults entropy.old) (E.faults entropy.new)) → W.alters watch.old ≡ false
         → Certifies (request_of (map string_bytes words.now.items)) (record { files = F.files files.old; alters = W.alters watch.old }) result }
+    ensures verifies { ¬ (Rose (F.faults files.old) (F.faults files.new)) → ¬ (Rose (O.faults out.old) (O.faults out.new))
+        → ¬ (Rose (E.faults entropy.old) (E.faults entropy.new)) → ¬ (Rose (D.faults dialer.old) (D.faults dialer.new))
+        → Verifies (request_of (map string_bytes words.now.items)) (record { files = F.files files.old; alters = W.alters watch.old })
+        (record { seeds = E.seeds entropy.old; seen = W.frames watch.old; dialer = record { ended = D.entries dialer.old; missed = D.missed dialer.old; faults = D.faults dialer.old } })
+        (record { seeds = E.seeds entropy.new; seen = W.frames watch.new; dialer = record { ended = D.entries dialer.new; missed = D.missed dialer.new; faults = D.faults dialer.new } }) result }
     ensures exercises { ¬ (Rose (O.faults out.old) (O.faults out.new)) → W.alters watch.old ≡ false
         → Exercises (request_of (map string_bytes words.now.items)) result }
     ensures limits_second { ¬ (Rose (O.faults out.old) (O.faults out.new)) → W.alters watch.old ≡ false
@@ -93,19 +117,23 @@ pub fn run<F: Files, E: Entropy, W: Watch, O: Sink>(
     ensures refuses { ¬ (Rose (F.faults files.old) (F.faults files.new)) → ¬ (Rose (O.faults out.old) (O.faults out.new))
         → Refuses (request_of (map string_bytes words.now.items)) (record { files = F.files files.old; alters = W.alters watch.old }) result }
 {
-    perform(alloc, words, files, entropy, watch, out)
+    perform(alloc, words, files, dialer, entropy, watch, out)
 }
 
 // What `run` does, with what it says and the causes of its faults.
-fn perform<F: Files, E: Entropy, W: Watch, O: Sink>(
+fn perform<F: Files, D: Dialer, E: Entropy, W: Watch, O: Sink>(
     alloc: Global,
     words: &[String],
     files: &mut F,
+    dialer: &mut D,
     entropy: &mut E,
     watch: &mut W,
     out: &mut O,
 ) -> u8
-    ensures says { (deed : Deed) × IsDeed (E.seeds entropy.old) (E.seeds entropy.new) (W.frames watch.old) (W.frames watch.new) deed
+    requires free { D.is_lent dialer.old ≡ false }
+    ensures free { D.is_lent dialer.new ≡ false }
+    ensures says { (deed : Deed) × IsDeed (record { seeds = E.seeds entropy.old; seen = W.frames watch.old; dialer = record { ended = D.entries dialer.old; missed = D.missed dialer.old; faults = D.faults dialer.old } })
+        (record { seeds = E.seeds entropy.new; seen = W.frames watch.new; dialer = record { ended = D.entries dialer.new; missed = D.missed dialer.new; faults = D.faults dialer.new } }) deed
         × Runs (request_of (map string_bytes words.now)) (record { files = F.files files.old; alters = W.alters watch.old }) deed result (O.held out.old) (O.held out.new) }
     ensures read_fault { result ≡ 3 → Rose (F.faults files.old) (F.faults files.new) }
     ensures write_fault { result ≡ 4 → Rose (O.faults out.old) (O.faults out.new) }
@@ -114,7 +142,7 @@ fn perform<F: Files, E: Entropy, W: Watch, O: Sink>(
     ensures passes_no_entropy_fault { result ≢ 11 → result ≢ 4 → E.faults entropy.new ≡ E.faults entropy.old }
     ensures passes_no_write_fault { result ≢ 4 → O.faults out.new ≡ O.faults out.old }
 {
-    match decide(alloc, words, files, entropy, watch, out) {
+    match decide(alloc, words, files, dialer, entropy, watch, out) {
         Some(outcome) => match outcome.print(out) {
             Ok(()) => outcome.status(),
             Err(WriteFault) => 4,
@@ -124,15 +152,19 @@ fn perform<F: Files, E: Entropy, W: Watch, O: Sink>(
 }
 
 // What there is to say, once the lines that come before it are printed. `None` if one could not be printed.
-fn decide<F: Files, E: Entropy, W: Watch, O: Sink>(
+fn decide<F: Files, D: Dialer, E: Entropy, W: Watch, O: Sink>(
     alloc: Global,
     words: &[String],
     files: &mut F,
+    dialer: &mut D,
     entropy: &mut E,
     watch: &mut W,
     out: &mut O,
 ) -> Option<Outcome>
-    ensures decides { (deed : Deed) × IsDeed (E.seeds entropy.old) (E.seeds entropy.new) (W.frames watch.old) (W.frames watch.new) deed
+    requires free { D.is_lent dialer.old ≡ false }
+    ensures free { D.is_lent dialer.new ≡ false }
+    ensures decides { (deed : Deed) × IsDeed (record { seeds = E.seeds entropy.old; seen = W.frames watch.old; dialer = record { ended = D.entries dialer.old; missed = D.missed dialer.old; faults = D.faults dialer.old } })
+        (record { seeds = E.seeds entropy.new; seen = W.frames watch.new; dialer = record { ended = D.entries dialer.new; missed = D.missed dialer.new; faults = D.faults dialer.new } }) deed
         × DecidesAll (request_of (map string_bytes words.now)) (record { files = F.files files.old; alters = W.alters watch.old }) deed (O.held out.old) (O.held out.new) result }
     ensures read_cause { Counts TheFiles (fault_in result) (F.faults files.old) (F.faults files.new) }
     ensures entropy_cause { Counts TheEntropy (fault_in result) (E.faults entropy.old) (E.faults entropy.new) }
@@ -142,6 +174,22 @@ fn decide<F: Files, E: Entropy, W: Watch, O: Sink>(
         Ok(Some(Request::Solve { file, options })) => Some(solve(alloc, file, &options, files)),
         Ok(Some(Request::Certify { file, options })) => {
             certify(alloc, file, &options, files, entropy, watch, out)
+        }
+        Ok(
+            Some(
+                Request::Verify {
+                    file,
+                    address,
+                    options,
+                },
+            ),
+        ) => {
+            let target = Target {
+                file,
+                address,
+                options,
+            };
+            verify(alloc, target, files, dialer, entropy, out)
         }
         Ok(Some(Request::Exercise { pairs, options })) => {
             exercise(alloc, pairs, &options, entropy, watch, out)
@@ -161,7 +209,8 @@ fn certify<F: Files, E: Entropy, W: Watch, O: Sink>(
     watch: &mut W,
     out: &mut O,
 ) -> Option<Outcome>
-    ensures decides { (deed : Deed) × IsDeed (E.seeds entropy.old) (E.seeds entropy.new) (W.frames watch.old) (W.frames watch.new) deed
+    requires repeat { HasRepeat options.now }
+    ensures decides { (deed : Deed) × IsDoneHere (E.seeds entropy.old) (E.seeds entropy.new) (W.frames watch.old) (W.frames watch.new) deed
         × DecidesAll (Some (Certify file.now options.now)) (record { files = F.files files.old; alters = W.alters watch.old }) deed (O.held out.old) (O.held out.new) result }
     ensures read_cause { Counts TheFiles (fault_in result) (F.faults files.old) (F.faults files.new) }
     ensures entropy_cause { Counts TheEntropy (fault_in result) (E.faults entropy.old) (E.faults entropy.new) }

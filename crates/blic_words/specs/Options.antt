@@ -8,7 +8,7 @@ use Rattle.blic_words.specs.declared.options.Options.{Options}
 
 -- the defaults: what holds if no option is given
 abbrev pub usual : Options
-usual = record { nodes = 4194304; pairs = 16777216; seed = None; talk = false }
+usual = record { nodes = 4194304; pairs = 16777216; seed = None; repeat = 1; talk = false }
 
 abbrev pub is_digit : ℕ → Bool
 is_digit b = nat_le 48 b && nat_le b 57
@@ -47,14 +47,15 @@ abbrev pub is_set : Bool → Option Text → Bool
 is_set default None = default
 is_set default (Some text) = bytes_eq text (codes "true")
 
-abbrev pub all_of : Option ℕ → Option ℕ → Option (Option (List ℕ)) → Bool → Option Options
-all_of (Some nodes) (Some pairs) (Some seed) talk = Some (record { nodes = nodes; pairs = pairs; seed = seed; talk = talk })
-all_of _ _ _ _ = None
+abbrev pub all_of : Option ℕ → Option ℕ → Option (Option (List ℕ)) → Option ℕ → Bool → Option Options
+all_of (Some nodes) (Some pairs) (Some seed) (Some repeat) talk = Some (record { nodes = nodes; pairs = pairs; seed = seed; repeat = repeat; talk = talk })
+all_of _ _ _ _ _ = None
 
--- the options by what was given under their names: `--nodes` is from 1 to 2^24, and `--pairs` from 1 to 2^25
+-- the options by what was given under their names: `--nodes` is from 1 to 2^24, `--pairs` from 1 to 2^25, and `--repeat` from 1 to 1000
 abbrev pub options_of : List Row → Option Options
 options_of given = all_of
     (number_or usual.nodes 1 16777216 (first_of (codes "nodes") given))
     (number_or usual.pairs 1 33554432 (first_of (codes "pairs") given))
     (seed_or usual.seed (first_of (codes "seed") given))
+    (number_or usual.repeat 1 1000 (first_of (codes "repeat") given))
     (is_set usual.talk (first_of (codes "talk") given))

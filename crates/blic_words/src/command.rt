@@ -1,24 +1,27 @@
 // What a command takes, as `clap` is told.
 ghost use Rattle.std.specs.Prelude.{◌≡◌, IfOk, IfSome, true, false, is_some, map, option_map, string_bytes};
 ghost use Rattle.clap.specs.Words.{rule_of, app_of, fault_of, found_of, is_simple_and_free, matches_of, rows_of};
-ghost use Rattle.blic_words.specs.Commands.{app_of_form, flag_word, given_of, is_free_of_faults, option_word, required_word};
+ghost use Rattle.blic_words.specs.Commands.{app_of_form, flag_word, given_of, is_free_of_faults, option_word, required_word, texts_of as texts_given};
 
 use crate::options::{Options, text_of};
 use clap::error::ErrorKind;
 use clap::{Arg, ArgAction, ArgMatches, Command};
 use std::alloc::{AllocError, Global};
 
-/// The command that takes one operand, options with one value each, and flags.
+/// The command that takes operands, options with one value each, and flags.
 pub(crate) fn command<'a>(
     alloc: Global,
     name: &'a str,
-    operand: &'a str,
+    operands: &[&'a str],
     options: &[&'a str],
     flags: &[&'a str],
 ) -> Result<Command<'a>, AllocError>
-    ensures { IfOk result (λ command. app_of command ≡ app_of_form (record { name = name.entry.now; operand = operand.entry.now; options = map (λ o. o.now) options.entry.now; flags = map (λ f. f.now) flags.entry.now })) }
+    ensures { IfOk result (λ command. app_of command ≡ app_of_form (record { name = name.entry.now; operands = map (λ o. o.now) operands.entry.now; options = map (λ o. o.now) options.entry.now; flags = map (λ f. f.now) flags.entry.now })) }
 {
-    let mut command = Command::new(alloc, name).arg(required(alloc, operand))?;
+    let mut command = Command::new(alloc, name);
+    for operand_name in operands {
+        command = command.arg(required(alloc, operand_name))?;
+    }
     for option_name in options {
         command = command.arg(option(alloc, option_name))?;
     }
@@ -28,19 +31,38 @@ pub(crate) fn command<'a>(
     Ok(command)
 }
 
-/// The operand and the options that the arguments give, if the command takes them.
+/// The operands' texts and the options that the arguments give, if the command takes them.
 pub(crate) fn given<'w>(
+    alloc: Global,
     command: Command<'w>,
-    operand: &str,
+    operands: &[&str],
     words: &'w [String],
-) -> Result<Option<(&'w str, Options)>, AllocError>
+) -> Result<Option<(Vec<&'w str>, Options)>, AllocError>
     requires { is_simple_and_free (app_of command) ≡ true }
-    ensures { IfOk result (λ given. option_map (λ g. (g.0.now, g.1)) given ≡ given_of (app_of command.entry) operand.entry.now (map string_bytes words.entry.now)) }
+    ensures { IfOk result (λ given. option_map (λ g. (map (λ t. t.now) g.0.items, g.1)) given ≡ given_of (app_of command.entry) (map (λ o. o.now) operands.entry.now) (map string_bytes words.entry.now)) }
 {
     let Some(matches) = taken(command, words)? else {
         return Ok(None);
     };
-    Ok(text_of(&matches, operand).zip(Options::read(&matches)))
+    Ok(texts_of(alloc, &matches, operands)?.zip(Options::read(&matches)))
+}
+
+// The texts that were given under the operands' names, in their order, if all were.
+fn texts_of<'w>(
+    alloc: Global,
+    matches: &ArgMatches<'w>,
+    operands: &[&str],
+) -> Result<Option<Vec<&'w str>>, AllocError>
+    ensures { IfOk result (λ texts. option_map (λ t. map (λ t. t.now) t.items) texts ≡ texts_given (map (λ o. o.now) operands.entry.now) (rows_of (found_of matches.now))) }
+{
+    let mut texts = Vec::new(alloc);
+    for operand in operands {
+        match text_of(matches, operand) {
+            Some(text) => texts.push(text)?,
+            None => return Ok(None),
+        }
+    }
+    Ok(Some(texts))
 }
 
 // What the arguments give, if the command takes them.
@@ -61,7 +83,7 @@ fn taken<'a>(
     }
 }
 
-// The operand, an argument that has to be given.
+// An operand, an argument that has to be given.
 fn required<'a>(alloc: Global, name: &'a str) -> Arg<'a>
     ensures rule { rule_of result ≡ required_word name.entry.now }
     ensures local { result.global ≡ false }

@@ -12,6 +12,9 @@ const MOST_NODES: u32 = 16_777_216;
 /// The greatest value of `--pairs`.
 const MOST_PAIRS: u32 = 33_554_432;
 
+/// The greatest value of `--repeat`.
+const MOST_REPEAT: u32 = 1_000;
+
 /// What the options of a command say. A command without an option has its default.
 #[derive(Clone, Copy, Debug, PartialEq, Eq)]
 pub struct Options {
@@ -21,6 +24,8 @@ pub struct Options {
     pub pairs: u32,
     /// `--seed`: the seed of the draws (challenges); `None` if it isn't given.
     pub seed: Option<[u8; 32]>,
+    /// `--repeat`: how often an answer is certified (a conversation each time), from 1 to 1,000, by default 1.
+    pub repeat: u32,
     /// `--talk`: whether the frames of a conversation are printed.
     pub talk: bool,
 }
@@ -34,6 +39,7 @@ impl Options {
             nodes: 4_194_304,
             pairs: 16_777_216,
             seed: None,
+            repeat: 1,
             talk: false,
         }
     }
@@ -48,6 +54,7 @@ impl Options {
             nodes: number_or(usual.nodes, 1, MOST_NODES, text_of(matches, "nodes"))?,
             pairs: number_or(usual.pairs, 1, MOST_PAIRS, text_of(matches, "pairs"))?,
             seed: seed_or(usual.seed, text_of(matches, "seed"))?,
+            repeat: number_or(usual.repeat, 1, MOST_REPEAT, text_of(matches, "repeat"))?,
             talk: is_set(usual.talk, text_of(matches, "talk")),
         })
     }

@@ -18,8 +18,9 @@ fn options_text(alloc: Global, options: Options) -> Result<String, AllocError> {
         Some(seed) => hex::encode(alloc, &seed)?,
         None => String::from_str(alloc, "-")?,
     };
-    let (nodes, pairs, talk) = (options.nodes, options.pairs, options.talk);
-    format!(in alloc; "{nodes} {pairs} {seed} {talk}")
+    let (nodes, pairs) = (options.nodes, options.pairs);
+    let (repeat, talk) = (options.repeat, options.talk);
+    format!(in alloc; "{nodes} {pairs} {seed} {repeat} {talk}")
 }
 
 fn request_text(alloc: Global, request: Request) -> Result<String, AllocError> {
@@ -31,6 +32,14 @@ fn request_text(alloc: Global, request: Request) -> Result<String, AllocError> {
         Request::Certify { file, options } => {
             let options = options_text(alloc, options)?;
             format!(in alloc; "certify {file} {options}")
+        }
+        Request::Verify {
+            file,
+            address,
+            options,
+        } => {
+            let options = options_text(alloc, options)?;
+            format!(in alloc; "verify {file} {address} {options}")
         }
         Request::Exercise { pairs, options } => {
             let options = options_text(alloc, options)?;
@@ -51,21 +60,25 @@ fn assert_asks(rt: &impl Abort, alloc: Global, words: &str, asked: &str) -> Resu
 
 #[test]
 fn words_that_fit_ask_for_their_request(rt: HostRuntime) -> Result<(), Fail> {
-    let rows = "solve f|solve f 4194304 16777216 - false
-solve f --nodes 7 --pairs 4|solve f 7 4 - false
-solve --pairs 4 --nodes 7 f|solve f 7 4 - false
-solve --nodes=7 f --pairs=4|solve f 7 4 - false
-solve f --nodes 1 --pairs 1|solve f 1 1 - false
-solve f --nodes 0000000006|solve f 6 16777216 - false
-solve f --nodes 16777216 --pairs 33554432|solve f 16777216 33554432 - false
-solve -- --help|solve --help 4194304 16777216 - false
-certify f|certify f 4194304 16777216 - false
-certify f --talk|certify f 4194304 16777216 - true
-certify --talk f --nodes 7 --pairs 4|certify f 7 4 - true
-certify f --seed 00112233445566778899aabbccddeeff00112233445566778899AABBCCDDEEFF|certify f 4194304 16777216 00112233445566778899aabbccddeeff00112233445566778899aabbccddeeff false
-exercise 1|exercise 1 4194304 16777216 - false
-exercise 0000000500|exercise 500 4194304 16777216 - false
-exercise 0001 --seed 00112233445566778899aabbccddeeff00112233445566778899aabbccddeeff|exercise 1 4194304 16777216 00112233445566778899aabbccddeeff00112233445566778899aabbccddeeff false";
+    let rows = "solve f|solve f 4194304 16777216 - 1 false
+solve f --nodes 7 --pairs 4|solve f 7 4 - 1 false
+solve --pairs 4 --nodes 7 f|solve f 7 4 - 1 false
+solve --nodes=7 f --pairs=4|solve f 7 4 - 1 false
+solve f --nodes 1 --pairs 1|solve f 1 1 - 1 false
+solve f --nodes 0000000006|solve f 6 16777216 - 1 false
+solve f --nodes 16777216 --pairs 33554432|solve f 16777216 33554432 - 1 false
+solve -- --help|solve --help 4194304 16777216 - 1 false
+certify f|certify f 4194304 16777216 - 1 false
+certify f --talk|certify f 4194304 16777216 - 1 true
+certify --talk f --nodes 7 --pairs 4|certify f 7 4 - 1 true
+certify f --seed 00112233445566778899aabbccddeeff00112233445566778899AABBCCDDEEFF|certify f 4194304 16777216 00112233445566778899aabbccddeeff00112233445566778899aabbccddeeff 1 false
+certify f --repeat 2|certify f 4194304 16777216 - 2 false
+verify f a|verify f a 4194304 16777216 - 1 false
+verify f a --repeat 1000 --talk|verify f a 4194304 16777216 - 1000 true
+verify --seed 00112233445566778899aabbccddeeff00112233445566778899aabbccddeeff f a|verify f a 4194304 16777216 00112233445566778899aabbccddeeff00112233445566778899aabbccddeeff 1 false
+exercise 1|exercise 1 4194304 16777216 - 1 false
+exercise 0000000500|exercise 500 4194304 16777216 - 1 false
+exercise 0001 --seed 00112233445566778899aabbccddeeff00112233445566778899aabbccddeeff|exercise 1 4194304 16777216 00112233445566778899aabbccddeeff00112233445566778899aabbccddeeff 1 false";
     for row in rows.lines() {
         let (words, asked) = row.split_once('|').ok_or("words and a request")?;
         assert_asks(&rt, rt.alloc(), words, asked)?;
@@ -75,7 +88,12 @@ exercise 0001 --seed 00112233445566778899aabbccddeeff00112233445566778899aabbccd
 
 // Arguments that fit no command, a line each.
 const MISFITS: &str = "
+verify
 verify f
+verify f a b
+verify f a --nodes 7
+verify f a --repeat 0
+verify f a --repeat 1001
 solve
 solve a b
 solve --help
@@ -95,6 +113,7 @@ solve f --pairs 0
 solve f --pairs 33554433
 solve f --seed 00112233445566778899aabbccddeeff00112233445566778899aabbccddeeff
 solve f --talk
+solve f --repeat 2
 certify
 certify f b
 certify f --seed 12
@@ -102,7 +121,8 @@ certify f --seed 00112233445566778899aabbccddeeff00112233445566778899aabbccddeef
 certify f --talk x
 certify f --talk=true
 certify f --nodes 0
-certify f --repeat 2
+certify f --repeat 0
+certify f --repeat 1001
 certify f --talk --talk
 exercise
 exercise 0
@@ -112,7 +132,8 @@ exercise +1
 exercise 1 2
 exercise 1 --seed 12
 exercise 1 --talk
-exercise 1 --nodes 7";
+exercise 1 --nodes 7
+exercise 1 --repeat 2";
 
 #[test]
 fn other_words_ask_for_nothing(rt: HostRuntime) -> Result<(), Fail> {

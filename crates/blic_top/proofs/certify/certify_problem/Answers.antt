@@ -7,7 +7,7 @@ use Rattle.blic_input.specs.declared.stop.Stop.TheVariants.{NotSolved}
 use Rattle.blic_input.proofs.Truth.{solvable_by}
 use Rattle.blic_top.specs.Deciding.{job_by}
 use Rattle.blic_top.specs.declared.outcome.Outcome.TheVariants.{Stopped}
-use Rattle.blic_top.proofs.Certified.{decides_quietly}
+use Rattle.blic_top.proofs.Quiet.{decides_quietly}
 use Rattle.blic_top.proofs.certify.certify_problem.Goals as goal
 
 pub converse-requires-clause-engine : goal.converse-requires-clause-engine

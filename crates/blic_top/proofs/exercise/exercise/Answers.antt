@@ -1,5 +1,6 @@
-use Rattle.std.proofs.Common.{None, length, subst, sym, ◌∙◌, true, ◌≤◌, ◌^◌}
+use Rattle.std.proofs.Common.{arith, ℕ, None, length, subst, sym, ◌∙◌, true, ◌≤◌, ◌^◌}
 use Rattle.blic_gen.specs.Chain.{chain}
+use Rattle.blic_model.specs.CircuitLimits.{most_points}
 use Rattle.blic_model.specs.Circuit.{OrderedCircuit}
 use Rattle.blic_model.specs.Shape.{IsShaped}
 use Rattle.blic_top.specs.Faults.{fault_in}
@@ -20,7 +21,10 @@ exercise_one-requires-in-Ok-clause-first g c =
     let one = first_is n o (record { files = None; alters = g.W.Watch.alters c.args.watch.now }) d.0 c.in-Some.first c.in-Some-draws_of.draws _ _ line d.2 in
     let shaped = subst (λ (d : OrderedCircuit). IsShaped d.nodes (length d.order)) (sym (problem_circuit (chain n true)))
     (c.circuit_law.ensures.shape (chain n true) (c.chain_law.ensures n true c.requires.pairs.0 c.requires.pairs.1)) in
-    subst (λ m. m ≤ 2 ^ 61) (sym one.draws_are) (few_draws p.circuit.nodes (length p.circuit.order) c.claims_law.ensures.some shaped one.small)
+    subst (λ m. m ≤ 2 ^ 60) (sym one.draws_are) (low (few_draws p.circuit.nodes (length p.circuit.order) c.claims_law.ensures.some shaped one.small))
+  where
+    low : {n : ℕ} → n ≤ most_points → n ≤ 2 ^ 60
+    low few = omega (arith, few)
 
 pub returns-in-Ok-clause-decides : goal.returns-in-Ok-clause-decides
 returns-in-Ok-clause-decides g c =

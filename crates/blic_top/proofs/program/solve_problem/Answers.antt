@@ -11,7 +11,7 @@ returns-in-Ok-clause-says c alters = (
   c.args.problem.now,
   refl,
   (c.truth_law.ensures.small, subst (λ (l : SolveLimits). IsSolvable c.args.problem.now (Some l)) c.limits_by.ensures c.in-Ok.ensures.1),
-  ((c.in-Ok.ensures.0, c.vars.ensures, c.clauses.ensures), refl),
+  (c.in-Ok.ensures.0, (c.vars.ensures, c.clauses.ensures), refl),
 )
 
 pub returns-in-Err-clause-says : goal.returns-in-Err-clause-says
