@@ -1,4 +1,5 @@
 pub mod Adapters
+pub mod Listing
 pub mod Memory
 pub mod Named
 pub mod Opening

@@ -5,6 +5,7 @@
 mod bend_watch;
 mod entropy;
 mod files;
+mod listed;
 mod mem_entropy;
 mod mem_file;
 mod mem_files;
@@ -24,6 +25,7 @@ mod watch;
 pub use bend_watch::{Bend, BendWatch};
 pub use entropy::{Entropy, Seeded};
 pub use files::{Files, Opened};
+pub use listed::Listed;
 pub use mem_entropy::MemEntropy;
 pub use mem_file::MemFile;
 pub use mem_files::MemFiles;
