@@ -1,4 +1,4 @@
--- What contracts see of a dialer of the system, and what the calls of a link do to its stream.
+-- What contracts see of a dialer and an acceptor of the system, and what the calls of a link do to its stream.
 use Rattle.std.specs.Prelude.{ℕ, Bool, List, Option, take}
 use Rattle.std.specs.Io.KnownBytes.{Appends, Consumes, IsAtEnd, Keeps}
 use Rattle.blic_link.specs.declared.link.Received.{Received}
@@ -11,6 +11,11 @@ pub record CountedDialer : Type 0 where
   pub is_lent : Bool
   pub faults : ℕ
   pub missed : ℕ
+
+-- whether it listens, and how many calls failed
+pub record CountedAcceptor : Type 0 where
+  pub is_listening : Bool
+  pub faults : ℕ
 
 -- what the stream will give, if that is known: `Got n` took its first n bytes, `End` says that it is at its end, `Failed` took nothing
 abbrev pub HasReceived : Option (List ℕ) → Option (List ℕ) → Received → List ℕ → Type 0

@@ -1,3 +1,4 @@
+pub mod Accepting
 pub mod Adapters
 pub mod Dialing
 pub mod Marks

@@ -5,7 +5,7 @@ ghost use Rattle.blic_link.specs.Dialing.{Dials, DialCounts, HangsUp, IfDialed};
 ghost use Rattle.blic_link.specs.Memory.{fit_dialer, new_dialer, entries_of};
 
 use crate::dialer::{Dialed, Dialer};
-use crate::mem_link::{MemLink, is_listed};
+use crate::mem_link::{MemLink, are_fresh, is_listed};
 use blic_basic::NoMem;
 use std::alloc::Global;
 use std::marker::Model;
@@ -64,20 +64,13 @@ impl MemDialer {
         })
     }
 
-    /// Whether a dialer can be made of these links: there are fewer than 2^32, nothing passed over
-    /// one of them, and no call of them failed, which holds of links that were just made.
+    /// Whether a dialer can be made of these links: there are fewer than 2^32, each can be used,
+    /// nothing passed over one of them, and no call of them failed, which holds of links that were
+    /// just made.
     pub fn fits(links: &[MemLink]) -> bool
         ensures { result ≡ fit_dialer links.now }
     {
-        if links.len() > u32::MAX as usize {
-            return false;
-        }
-        for link in links {
-            if link.pieces() != 0 || link.faults() != 0 {
-                return false;
-            }
-        }
-        true
+        links.len() <= u32::MAX as usize && are_fresh(links)
     }
 
     // Whether the next dial is to fail.
@@ -137,7 +130,7 @@ impl Dialer for MemDialer {
     /// listed or no link is left.
     fn dial(&mut self, _address: &str) -> Dialed<MemLink>
         requires { self.old.is_lent ≡ false }
-        ensures link { Dials (λ _. true) (λ l. Some l.pieces) (λ l. l.faults) result }
+        ensures link { Dials (λ l. l.is_usable) (λ l. Some l.pieces) (λ l. l.faults) result }
         ensures cause { DialCounts self.old.faults self.new.faults self.old.missed self.new.missed self.new.is_lent result }
         ensures same { Some (entries_of self.new) ≡ Some (entries_of self.old) }
         ensures failed { (result ≡ Dialed.Failed) ↔ (Contains self.old.failing self.old.calls ⊎ (self.old.links ≡ [])) }

@@ -1,7 +1,7 @@
 // A link in memory.
 ghost use Rattle.std.specs.Prelude.{◌≡◌, ◌<◌, ◌≤◌, ◌+◌, ◌^◌, ◌↔◌, ◌⊎◌, Contains, IsTrue, Some, [], true, false, cond, IfOk, length, min, take, slice_index_or};
 ghost use Rattle.blic_basic.specs.Outside.{one_more};
-ghost use Rattle.blic_link.specs.Memory.{new_link};
+ghost use Rattle.blic_link.specs.Memory.{new_link, no_link, all_fresh};
 ghost use Rattle.blic_link.specs.Passing.{Receives, ReceiveCounts, IfReceived, received_count, Sends, SendCounts, IfSent, sent_count, Came, bytes_of, was_sent};
 
 use crate::link::{Link, Received, Sent};
@@ -11,10 +11,11 @@ use std::alloc::Global;
 use std::marker::Model;
 
 /// A link over which bytes in memory come, and which keeps the pieces that pass, each of at most
-/// `most` bytes, while it has room. The calls whose numbers are listed fail. Contracts see a
-/// `MemoryLink`.
+/// `most` bytes, while it has room. The calls whose numbers are listed fail. One that can't be used
+/// comes from a failed `MemAcceptor::next` alone. Contracts see a `MemoryLink`.
 #[derive(Drop)]
 pub struct MemLink {
+    usable: bool,
     coming: Vec<u8>,
     at: usize,
     most: usize,
@@ -31,6 +32,7 @@ impl Model for MemLink {
     ghost Value = { MemoryLink };
 
     ghost view = { λ l. record {
+      is_usable = l.usable;
       pieces = l.pieces.pieces;
       coming = drop l.at l.coming.items;
       most = l.most;
@@ -60,6 +62,7 @@ impl MemLink {
         ensures { IfOk result (λ l. l ≡ new_link coming.items most failing.items room) }
     {
         Ok(MemLink {
+            usable: true,
             coming,
             at: 0,
             most,
@@ -68,6 +71,22 @@ impl MemLink {
             calls: 0,
             faults: 0,
         })
+    }
+
+    /// The link of a client who was not accepted. It can't be used, and takes no memory.
+    pub(crate) fn none(alloc: Global) -> MemLink
+        ensures { result ≡ no_link }
+    {
+        MemLink {
+            usable: false,
+            coming: Vec::new(alloc),
+            at: 0,
+            most: 1,
+            failing: Vec::new(alloc),
+            pieces: Pieces::none(alloc),
+            calls: 0,
+            faults: 0,
+        }
     }
 
     /// The bytes that are still coming.
@@ -132,7 +151,7 @@ impl MemLink {
 }
 
 impl Link for MemLink {
-    ghost is_usable = { λ _. true };
+    ghost is_usable = { λ l. l.is_usable };
 
     ghost pieces = { λ l. Some l.pieces };
 
@@ -141,13 +160,14 @@ impl Link for MemLink {
     ghost faults = { λ l. l.faults };
 
     fn usable(&self) -> bool {
-        true
+        self.usable
     }
 
     /// Takes as many bytes as `buf`, `most` and the room that is left allow. It fails exactly if the
     /// call's number is listed or no room is left, also if nothing is coming.
     #[tactic(auto, using(blic_basic::proofs::Appended::taken_bytes))]
     fn recv(&mut self, buf: &mut [u8]) -> Received
+        requires usable { self.old.is_usable ≡ true }
         requires room { 0 < length buf.old }
         ensures bytes { Receives (Some self.old.pieces) (Some self.new.pieces) (Some self.old.coming) (Some self.new.coming) result buf.new }
         ensures cause { ReceiveCounts self.old.faults self.new.faults result }
@@ -155,6 +175,7 @@ impl Link for MemLink {
         ensures fault { result ≡ Received.Failed → self.new.faults ≡ one_more self.old.faults }
         ensures piece { IfReceived result (λ n. n ≡ min self.old.most (min self.old.room (min (length buf.old) (length self.old.coming)))) }
         ensures left { self.new.room + received_count result ≡ self.old.room }
+        ensures same { self.new.is_usable ≡ self.old.is_usable }
         ensures calls { self.new.calls ≡ one_more self.old.calls }
         ensures same_most { self.new.most ≡ self.old.most }
         ensures same_failing { self.new.failing ≡ self.old.failing }
@@ -176,6 +197,7 @@ impl Link for MemLink {
     /// Sends as many bytes as `most` and the room that is left allow. It fails exactly if the
     /// call's number is listed or no room is left.
     fn send(&mut self, piece: &[u8]) -> Sent
+        requires usable { self.old.is_usable ≡ true }
         requires some { 0 < length piece.now }
         ensures bytes { Sends (Some self.old.pieces) (Some self.new.pieces) result piece.now }
         ensures same_coming { Some self.new.coming ≡ Some self.old.coming }
@@ -184,6 +206,7 @@ impl Link for MemLink {
         ensures fault { result ≡ Sent.Failed → self.new.faults ≡ one_more self.old.faults }
         ensures piece { IfSent result (λ n. n ≡ min self.old.most (min self.old.room (length piece.now))) }
         ensures left { self.new.room + sent_count result ≡ self.old.room }
+        ensures same { self.new.is_usable ≡ self.old.is_usable }
         ensures calls { self.new.calls ≡ one_more self.old.calls }
         ensures same_most { self.new.most ≡ self.old.most }
         ensures same_failing { self.new.failing ≡ self.old.failing }
@@ -204,8 +227,20 @@ pub(crate) fn is_listed(failing: &[u64], call: u64) -> bool
     failing.contains(&call)
 }
 
+// Whether each of the links can be used, nothing passed over it, and no call of it failed.
+pub(crate) fn are_fresh(links: &[MemLink]) -> bool
+    ensures { result ≡ all_fresh links.now }
+{
+    for link in links {
+        if !link.usable || link.pieces() != 0 || link.faults() != 0 {
+            return false;
+        }
+    }
+    true
+}
+
 // Copies a prefix of `rest` to the start of `buf`: as many bytes as both have, and at most `most`.
-fn copy_front(rest: &[u8], buf: &mut [u8], most: usize) -> usize
+pub(crate) fn copy_front(rest: &[u8], buf: &mut [u8], most: usize) -> usize
     requires rest { 0 < length rest.now }
     requires buf { 0 < length buf.old }
     requires most { 1 ≤ most }

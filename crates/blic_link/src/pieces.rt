@@ -52,6 +52,17 @@ impl Pieces {
         })
     }
 
+    /// No pieces, and no room, which takes no memory.
+    pub(crate) fn none(alloc: Global) -> Pieces
+        ensures { result ≡ record { pieces = []; room = 0 } }
+    {
+        Pieces {
+            bytes: Vec::new(alloc),
+            marks: Vec::new(alloc),
+            room: 0,
+        }
+    }
+
     /// How many bytes more there is room for.
     pub(crate) fn room(&self) -> usize
         ensures { result ≡ self.now.room }

@@ -1,17 +1,17 @@
-// Links in memory at listed calls, pieces and rooms; dialers; links over streams that fail, and over TCP.
+// Links in memory at listed calls, pieces and rooms; dialers and acceptors; links over streams that fail, and over TCP.
 ghost use Rattle.std.specs.Prelude.{◌≡◌, ◌≤◌, true, List, IfOk};
 ghost use Rattle.blic_link.specs.Passing.{Piece, with_pieces};
 ghost use Rattle.blic_link.specs.Pace.{KeepsPace};
 
 use crate::{
-    Dialed, Dialer, Link, LinkFault, MemDialer, MemLink, Received, Sent, TcpDialer, TcpLink,
-    send_all,
+    Accepted, Acceptor, Dialed, Dialer, Gate, Link, LinkFault, Listened, MemAcceptor, MemDialer,
+    MemLink, OpenGate, Received, Sent, SureAcceptor, TcpAcceptor, TcpDialer, TcpLink, send_all,
 };
 use blic_basic::NoMem;
 use std::alloc::Global;
 use std::io;
 use std::io::{Read, Write};
-use std::net::{OpenStream, TcpListener, TcpStream};
+use std::net::{Net, OpenStream, TcpListener, TcpStream};
 use std::test::Fail;
 use std::time::Duration;
 
@@ -163,6 +163,62 @@ fn links_are_dialed_in_their_order_and_kept(rt: HostRuntime) -> Result<(), Fail>
     Ok(())
 }
 
+// Two links, of one and of two bytes, which are accepted by an acceptor that fails at a listed call.
+fn acceptor_of(alloc: Global, failing: u64) -> Result<MemAcceptor, Fail> {
+    let first = link_of(alloc, "a", &[], 9)?;
+    let second = link_of(alloc, "bc", &[], 9)?;
+    let links = vec![in alloc; first, second]?;
+    if !MemAcceptor::fits(&links) {
+        return Err(Fail::from("links that were just made"));
+    }
+    Ok(MemAcceptor::new(links, vec![in alloc; failing]?))
+}
+
+// Receives from the next link, which passes nothing if it can't be used.
+fn accept<A: Acceptor>(acceptor: &mut A) -> Option<usize> {
+    match acceptor.next() {
+        Accepted::Link(mut link) => pass(&mut link, ""),
+        Accepted::Failed(mut link) => pass(&mut link, ""),
+    }
+}
+
+#[test]
+fn a_failed_call_of_an_acceptor_uses_no_link(rt: HostRuntime) -> Result<(), Fail> {
+    // the call that fails, what listening answers, how many bytes the next links give, and the faults
+    let rows = [
+        (0, Listened::Failed, [Some(1), Some(2), None], 2),
+        (1, Listened::Ready, [None, Some(1), Some(2)], 1),
+        (2, Listened::Ready, [Some(1), None, Some(2)], 1),
+        (3, Listened::Ready, [Some(1), Some(2), None], 1),
+    ];
+    for (failing, listened, given, faults) in rows {
+        let mut acceptor = acceptor_of(rt.alloc(), failing)?;
+        assert_eq!(rt; acceptor.listen("anywhere"), listened);
+        for count in given {
+            assert_eq!(rt; accept(&mut acceptor), count, "call {failing} fails");
+        }
+        assert_eq!(rt; acceptor.faults(), faults);
+    }
+    Ok(())
+}
+
+#[test]
+fn each_sure_link_gives_the_same_bytes(rt: HostRuntime) {
+    let mut acceptor = SureAcceptor::new(b"abcde");
+    let gate = OpenGate::new();
+    assert_eq!(rt; acceptor.listen("anywhere"), Listened::Ready);
+    for session in 0..3 {
+        gate.before(&rt, session);
+        let Accepted::Link(mut link) = acceptor.next() else {
+            unreachable!()
+        };
+        for (sent, passed) in [("", 3), ("hello", 5), ("", 2), ("", 0), ("z", 1)] {
+            assert_eq!(rt; pass(&mut link, sent), Some(passed));
+        }
+        gate.after(&rt, session);
+    }
+}
+
 // A stream whose delay stays, which gives and takes so many bytes a call, and whose calls fail from one of them on.
 #[derive(Drop)]
 struct Failing {
@@ -251,6 +307,45 @@ fn bytes_pass_both_ways_over_tcp_until_the_peer_closes(rt: HostRuntime) -> Resul
     assert!(rt; matches!(dialer.dial(address.as_str()), Dialed::Failed));
     assert!(rt; matches!(dialer.dial("127.0.0.1"), Dialed::Failed));
     assert!(rt; dialer.faults() == 2 && dialer.missed() == 2);
+    Ok(())
+}
+
+// Listens at the first of ten ports that is free, and says at which.
+fn listen_at<N: Net>(acceptor: &mut TcpAcceptor<N>, alloc: Global) -> Result<String, Fail> {
+    for port in 47030..47040 {
+        let address = format!(in alloc; "127.0.0.1:{port}")?;
+        if acceptor.listen(address.as_str()) == Listened::Ready {
+            return Ok(address);
+        }
+    }
+    Err(Fail::from("no port is free"))
+}
+
+#[test]
+fn clients_are_accepted_over_tcp_at_one_port_by_one(rt: HostRuntime) -> Result<(), Fail> {
+    let mut acceptor = TcpAcceptor::new(&rt);
+    let address = listen_at(&mut acceptor, rt.alloc())?;
+    let mut second = TcpAcceptor::new(&rt);
+    for address in [address.as_str(), "127.0.0.1"] {
+        assert_eq!(rt; second.listen(address), Listened::Failed);
+    }
+    assert_eq!(rt; accept(&mut second), None);
+    assert_eq!(rt; second.faults(), 3);
+    let faults = acceptor.faults();
+    let mut dialer = TcpDialer::new(&rt);
+    let Dialed::Link(mut client) = dialer.dial(address.as_str()) else {
+        return Err(Fail::from("the acceptor was not dialed"));
+    };
+    assert!(rt; send_all(&mut client, b"hello").is_ok());
+    dialer.hang_up(client);
+    let Accepted::Link(mut server) = acceptor.next() else {
+        return Err(Fail::from("the client was not accepted"));
+    };
+    let mut buf = [0; 5];
+    assert_eq!(rt; server.recv(&mut buf), Received::Got(5));
+    assert_eq!(rt; buf.as_slice(), b"hello".as_slice());
+    assert_eq!(rt; server.recv(&mut buf), Received::End);
+    assert_eq!(rt; acceptor.faults(), faults);
     Ok(())
 }
 

@@ -1,6 +1,6 @@
 use Rattle.std.proofs.Common.{◌≡◌, drop}
 use Rattle.blic_link.specs.Memory.{all_fresh}
-use Rattle.blic_link.proofs.mem_dialer.MemDialer.fits.Given as goal
+use Rattle.blic_link.proofs.mem_link.are_fresh.Given as goal
 
 -- the links so far are fresh
 abbrev pub invariant-loop-link : goal.invariant-loop-link
