@@ -16,7 +16,9 @@ use std::test::Fail;
 use std::time::Duration;
 
 // A link over which bytes come, in pieces of at most two bytes.
-fn link_of(alloc: Global, coming: &str, failing: &[u64], room: u32) -> Result<MemLink, NoMem> {
+fn link_of(alloc: Global, coming: &str, failing: &[u64], room: u32) -> Result<MemLink, NoMem>
+    ensures { IfOk result (λ link. link.is_usable ≡ true) }
+{
     let coming = Vec::from_slice(alloc, coming.as_bytes())?;
     let failing = Vec::from_slice(alloc, failing)?;
     MemLink::new(alloc, coming, 2, failing, room as usize)
