@@ -25,11 +25,12 @@ StageFits c points (Drawing k i) = IsAtWork c points k (suc i)
 StageFits c points Finished = Unit {0}
 StageFits c points Over = Unit {0}
 
--- what holds of a prover's parts: there is room for `room` polynomials
+-- what holds of a prover's parts: there is room for `room` polynomials, and not for more than a frame has
 pub record ProverFits (c : OrderedCircuit) (layout : Places) (points : PointTable) (room : ℕ) (count : ℕ) (stage : Stage) : Type 0 where
   pub laid_out : layout ≡ layout_of c
   pub same_rows : ArePointsOf points c
   pub most : HasMostClaims c room
+  pub few : room ≤ 65536
   pub within : count ≤ room
   pub at_work : StageFits c points stage
 

@@ -3,9 +3,9 @@ ghost use Rattle.std.specs.Prelude.{◌≡◌, ◌+◌, ◌*◌, ◌<◌, ◌≤
 ghost use Rattle.blic_model.specs.Circuit.{free};
 ghost use Rattle.blic_model.specs.Counts.{claims as claims_of};
 ghost use Rattle.blic_claims.specs.Places.{layout_of};
-ghost use Rattle.blic_claims.specs.Turns.{no_reply, reply_by, Polys as PolysReply, Values as ValuesReply};
+ghost use Rattle.blic_claims.specs.Turns.{turns, no_reply, reply_by, Polys as PolysReply, Values as ValuesReply};
 ghost use Rattle.blic_claims.specs.Honest.{honest_answer, honest_replies};
-ghost use Rattle.blic_messages.specs.Replies.{said, Polys, Values};
+ghost use Rattle.blic_messages.specs.Replies.{said, polynomials_in, Polys, Values};
 ghost use Rattle.blic_messages.specs.declared.ask.Ask.{Ask as AskOf};
 ghost use Rattle.blic_messages.specs.declared.ask.Ask.TheVariants.{Hello as AskHello, Go as AskGo, Draw as AskDraw};
 ghost use Rattle.blic_prover.specs.Fitted.{IsAtWork};
@@ -18,7 +18,7 @@ use crate::stage::Stage;
 use crate::step::{Given, Step};
 use crate::walk::walk;
 use blic_basic::{NoMem, Steps};
-use blic_claims::{Answers, Layout, Points};
+use blic_claims::{Answers, Layout, Points, claims_law};
 use blic_field::Fe;
 use blic_messages::{Ask, Hello, Reply};
 use blic_model::Circuit;
@@ -65,6 +65,7 @@ impl<'c> Prover<'c> {
         ensures fresh { IfOk result (λ p. p.stage ≡ Stage.Fresh) }
         ensures silent { IfOk result (λ p. ServesFor p []) }
     {
+        circuit.is_within_limits();
         let points = Points::new(alloc, circuit, layout)?;
         let none = Poly2 {
             c0: Fe::ZERO,
@@ -117,9 +118,20 @@ impl<'c> Prover<'c> {
         }
     }
 
-    /// The reply that a step answered as `given`, with the polynomials that were given last.
+    /// How many replies a session has at most: the answer, and one for each turn.
+    pub fn replies(&self) -> u64
+        ensures { result ≡ suc (length (turns self.now.circuit.nodes (length self.now.circuit.order))) }
+    {
+        self.circuit.is_within_limits();
+        claims_law();
+        self.layout.replies() + 1
+    }
+
+    /// The reply that a step answered as `given`, with the polynomials that were given last, of which there are at most as many as a
+    /// frame has.
     pub fn shown(&self, given: Given) -> Reply<'_>
-        ensures { said result ≡ said_by self.now.kept given }
+        ensures said { said result ≡ said_by self.now.kept given }
+        ensures few { polynomials_in (said result) ≤ 65536 }
     {
         match given {
             Given::Answer(answer) => Reply::Answer(answer),

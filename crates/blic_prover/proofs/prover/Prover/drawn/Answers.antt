@@ -37,6 +37,7 @@ invariant_of-self g c =
     let work : IsAtWork circuit inside.points k (suc i) = subst (StageFits circuit inside.points) c.in-Drawing.is inv.at_work in
     record {
       laid_out = inv.laid_out;
+      few = inv.few;
       same_rows = c.draw.ensures.rows ∙ inv.same_rows;
       most = inv.most;
       within = inv.within;

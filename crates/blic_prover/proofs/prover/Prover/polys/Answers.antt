@@ -44,6 +44,7 @@ invariant_of-self g c =
     let len : length (with_items inside.polys c.fill.new.room).items ≡ length inside.polys.items = ap length written ∙ (long ∙ same) in
     record {
       laid_out = inv.laid_out;
+      few = subst (λ z. z ≤ 65536) (sym len) inv.few;
       same_rows = inv.same_rows;
       most = λ k lk b. subst (λ z. claims inside.circuit.now.nodes k ≤ z) (sym len) (inv.most k lk b);
       within = subst (λ z. c.row-count.result.claims ≤ z) (sym len) (omega (arith, own.count, inv.most c.args.node work.inside work.binary));

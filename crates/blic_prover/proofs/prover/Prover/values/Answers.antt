@@ -12,6 +12,7 @@ use Rattle.blic_prover.proofs.prover.Prover.values.Goals as goal
 pub invariant_of-self : goal.invariant_of-self
 invariant_of-self g c = record {
   laid_out = c.self.invariant.laid_out;
+  few = c.self.invariant.few;
   same_rows = c.hand_down.ensures.rows ∙ c.self.invariant.same_rows;
   most = c.self.invariant.most;
   within = c.self.invariant.within;
