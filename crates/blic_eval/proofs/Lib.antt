@@ -2,8 +2,11 @@ pub mod CircuitValues
 pub mod Extensions
 pub mod FreeBelow
 pub mod Joining
+pub mod Keeping
 pub mod Linearized
 pub mod Numbering
+pub mod Packing
 pub mod Reaching
 pub mod Refs
+pub mod Sorting
 pub mod Walking

@@ -93,7 +93,7 @@ pub lin_constant : (c t : ℕ) → c < modulus → lin_at (record { c0 = c; c1 =
 lin_constant c t l = simp (lin_at-def, ring) (omega arith)
 
 -- The table has the constants whatever it is.
-constant_line : (nodes : List Decision) (levels level : ℕ) (s : Point) (lines : List Lin) (r : ℕ) → r < 2 → IsLine nodes levels level s r (line_of lines r)
+pub constant_line : (nodes : List Decision) (levels level : ℕ) (s : Point) (lines : List Lin) (r : ℕ) → r < 2 → IsLine nodes levels level s r (line_of lines r)
 constant_line nodes levels level s lines zero l =
     subst (IsLine nodes levels level s 0) (sym (line_of-false lines))
     (record { elements = (omega arith, omega arith); values = λ t. lin_constant 0 t (omega arith) ∙ sym (extension-false nodes levels (put s level t)) })
@@ -102,7 +102,7 @@ constant_line nodes levels level s lines (suc zero) l =
     (record { elements = (omega arith, omega arith); values = λ t. lin_constant 1 t (omega arith) ∙ sym (extension-true nodes levels (put s level t)) })
 constant_line nodes levels level s lines (suc (suc r)) l = absurd (omega arith)
 
-constant_value : (nodes : List Decision) (levels : ℕ) (s : Point) (lines : List Lin) (r : ℕ) → r < 2 → IsValue nodes levels s lines r
+pub constant_value : (nodes : List Decision) (levels : ℕ) (s : Point) (lines : List Lin) (r : ℕ) → r < 2 → IsValue nodes levels s lines r
 constant_value nodes levels s lines zero l = ap (λ z. z.c0) (line_of-false lines) ∙ sym (extension-false nodes levels s)
 constant_value nodes levels s lines (suc zero) l = ap (λ z. z.c0) (line_of-true lines) ∙ sym (extension-true nodes levels s)
 constant_value nodes levels s lines (suc (suc r)) l = absurd (omega arith)
@@ -154,7 +154,7 @@ pub record HasSideLines (nodes : List Decision) (levels level : ℕ) (s : Point)
   pub low : IsLine nodes levels level s (low_of nodes (k + 2)) (line_of lines (low_of nodes (k + 2)))
   pub high : IsLine nodes levels level s (high_of nodes (k + 2)) (line_of lines (high_of nodes (k + 2)))
 
-sides_among : (nodes : List Decision) (numbers : List ℕ) (i k : ℕ) → IsReachedBySome nodes numbers → i < length numbers → k ≡ get_or numbers i 0
+pub sides_among : (nodes : List Decision) (numbers : List ℕ) (i k : ℕ) → IsReachedBySome nodes numbers → i < length numbers → k ≡ get_or numbers i 0
     → (k < length nodes) × IsAmong numbers i (low_of nodes (k + 2)) × IsAmong numbers i (high_of nodes (k + 2))
 sides_among nodes numbers i k some l e =
     let back : get_or numbers i 0 ≡ (k + 2) - 2 = omega arith in

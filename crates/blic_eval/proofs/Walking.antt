@@ -10,8 +10,8 @@ use Rattle.blic_store.specs.Numbers.{Lacks}
 use Rattle.blic_store.specs.Under.{IsLedTo}
 use Rattle.blic_store.proofs.Numbers.{Each, each_front, each_last, each_push, falling_above, lacks_push, once_fewer, once_push, push_front, push_last}
 use Rattle.blic_store.proofs.Paths.{IsPath, at_hand, path_down, path_first, path_up}
-use Rattle.blic_eval.specs.Reached.{IsAmong, IsClosed, IsReached}
-use Rattle.blic_eval.specs.Walks.{AddsParts, HasSidesOf, IsMissingSide}
+use Rattle.blic_eval.specs.Reached.{IsAmong, IsClosed}
+use Rattle.blic_eval.specs.Walks.{AddsParts, HasSidesOf, IsFound, IsMissingSide}
 
 pub among_more : (numbers : List ℕ) (m n r : ℕ) → m ≤ n → IsAmong numbers m r → IsAmong numbers n r
 among_more numbers m n r l a = elim a [
@@ -171,7 +171,7 @@ closed_fewer nodes numbers k c lacks l = once_fewer numbers k (length nodes) c.h
 
 -- Two walks, from nothing.
 pub reached_both : (nodes : List Decision) (a b : ℕ) (first second : List ℕ) → AddsParts nodes a [] first → IsAmong first (length first) a
-    → IsClosed nodes second → AddsParts nodes b first second → IsAmong second (length second) b → IsReached nodes a b second
+    → IsClosed nodes second → AddsParts nodes b first second → IsAmong second (length second) b → IsFound nodes a b second
 reached_both nodes a b first second add_a in_a closed add_b in_b =
     let long = add_b.longer in
     record {

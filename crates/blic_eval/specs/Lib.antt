@@ -1,6 +1,8 @@
 pub mod Extension
+pub mod Kept
 pub mod Lines
 pub mod Numbers
+pub mod Packed
 pub mod Reached
 pub mod Room
 pub mod Sides

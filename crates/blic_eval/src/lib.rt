@@ -4,15 +4,16 @@
 mod laws;
 mod lines;
 mod number_set;
+mod packed;
 mod pairs;
 mod reached;
 mod scratch;
 mod values;
 
 pub use laws::circuit_law;
-pub use pairs::{poly, reached_poly};
+pub use pairs::{poly, poly_kept};
 pub use scratch::Scratch;
-pub use values::{pair_values, reached_values};
+pub use values::{pair_values, values_kept};
 
 #[cfg(test)]
 mod tests;

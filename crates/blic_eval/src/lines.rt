@@ -1,7 +1,8 @@
 // The polynomials of a store's functions in the variable of one level.
-ghost use Rattle.std.specs.Prelude.{◌≡◌, ◌+◌, ◌*◌, ◌<◌, ◌≤◌, length};
+ghost use Rattle.std.specs.Prelude.{◌≡◌, ◌+◌, ◌*◌, ◌<◌, ◌≤◌, ℕ, suc, length, slice_index_or};
 ghost use Rattle.blic_field.specs.Field.{blend};
-ghost use Rattle.blic_store.specs.Diagram.{high_of, low_of};
+ghost use Rattle.blic_store.specs.Diagram.{decision_at, high_of, low_of};
+ghost use Rattle.blic_eval.specs.Kept.{IsDownTo};
 ghost use Rattle.blic_eval.specs.Lines.{HasLevels, HasLines, IsLine, line_of, point_of};
 ghost use Rattle.blic_eval.specs.Reached.{IsReachedBySome};
 
@@ -12,31 +13,40 @@ use blic_store::{Ref, Store};
 use std::sync::ledger::Ledger;
 
 /// The polynomials of the decisions that two functions lead to, in the variable of `level`, with the
-/// other levels at the point. At most two products of elements a decision.
+/// other levels at the point. Those of the first `from` are there, which are the decisions of greater
+/// levels. At most two products of elements for each other one.
 pub(crate) fn fill_lines<L: Ledger>(
     store: &Store,
     reached: &[u32],
+    from: u32,
     level: u32,
     point: &[Fe],
     lines: &mut [Lin],
     steps: &mut Steps<L>,
 )
     requires reached { IsReachedBySome store.now.nodes reached.now }
+    requires above { IsDownTo store.now.nodes reached.now from (suc level) }
     requires levels { HasLevels store.now.nodes (length point.now) }
     requires level { level < length point.now }
     requires room { length store.now.nodes ≤ length lines.old }
+    requires lines { HasLines store.now.nodes (length point.now) level (point_of point.now) lines.old reached.now from }
     ensures lines { HasLines store.now.nodes (length point.now) level (point_of point.now) lines.new reached.now (length reached.now) }
+    ensures before { (i : ℕ) → i < from → line_of lines.new (slice_index_or reached.now i 0 + 2) ≡ line_of lines.old (slice_index_or reached.now i 0 + 2) }
     ensures room { length lines.new ≡ length lines.old }
-    ensures at_most { steps.new ≤ steps.old + 2 * length reached.now }
+    ensures at_most { steps.new + 2 * from ≤ steps.old + 2 * length reached.now }
     ensures at_least { steps.old ≤ steps.new }
 {
     store.canonical_law();
-    for &k in reached {
+    let mut n = from as usize;
+    'next: while n < reached.len() {
+        let k = reached[n];
         lines[k as usize] = line_of_decision(store, k, level, point, lines, steps);
+        n += 1;
     }
 }
 
-// The polynomial of decision `k`, from those of the two functions that it leads to.
+// The polynomial of decision `k`, whose level isn't greater, from those of the two functions that it
+// leads to.
 fn line_of_decision<L: Ledger>(
     store: &Store,
     k: u32,
@@ -46,6 +56,7 @@ fn line_of_decision<L: Ledger>(
     steps: &mut Steps<L>,
 ) -> Lin
     requires k { k < length store.now.nodes }
+    requires own { (decision_at store.now.nodes k).level ≤ level }
     requires levels { HasLevels store.now.nodes (length point.now) }
     requires level { level < length point.now }
     requires room { length store.now.nodes ≤ length lines.now }
@@ -62,13 +73,11 @@ fn line_of_decision<L: Ledger>(
     let own = store.level(r);
     if own < level {
         Lin::blend(point[own as usize], &low, &high, steps)
-    } else if own == level {
+    } else {
         Lin {
             c0: low.c0,
             c1: high.c0.sub(low.c0),
         }
-    } else {
-        constant(blended(point[own as usize], low.c0, high.c0, steps))
     }
 }
 

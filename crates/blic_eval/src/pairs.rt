@@ -1,10 +1,11 @@
 // The polynomials of pairs of functions that are joined.
-ghost use Rattle.std.specs.Prelude.{◌≡◌, ◌+◌, ◌*◌, ◌<◌, ◌≤◌, ℕ, [], cond, length, min, slice_index_or};
+ghost use Rattle.std.specs.Prelude.{◌≡◌, ◌+◌, ◌*◌, ◌<◌, ◌≤◌, ℕ, [], suc, cond, length, min, slice_index_or};
 ghost use Rattle.blic_field.specs.Quadratic.{at, HasElements};
 ghost use Rattle.blic_poly2.specs.Poly.{lin_at};
 ghost use Rattle.blic_store.specs.Diagram.{IsRef, decision_at, function};
 ghost use Rattle.blic_graph.specs.Pairs.{IsGraph, pair_at};
 ghost use Rattle.blic_eval.specs.Extension.{joined, joined_poly};
+ghost use Rattle.blic_eval.specs.Kept.{HasKept, IsDownTo};
 ghost use Rattle.blic_eval.specs.Lines.{HasLevels, HasLines, line_of, point_of};
 ghost use Rattle.blic_eval.specs.Reached.{IsReached};
 ghost use Rattle.blic_eval.specs.Sides.{HasPolys, HasTables, IsFirstUnder, IsGraphOfReached, IsInTables, IsPairPoly, is_under, leaf_of, poly_of_side, widened_of};
@@ -21,10 +22,11 @@ use std::sync::ledger::Ledger;
 
 /// The polynomial, in the variable of `level`, of the operation on `a` and `b`, with all levels above
 /// `level` made linear and the others at the point, which has an element for each level. The graph
-/// lists the pairs of `a` and `b` (their product as BDDs). The scratch is about the two from then on.
+/// lists the pairs of `a` and `b` (their product as BDDs). The scratch is about the two from then on,
+/// and keeps the values of the decisions (nodes of BDDs) whose level is greater than `level`.
 ///
 /// It makes at most 2*N + 4*P products of elements, where N is the number of the store's decisions
-/// (nodes of BDDs) and P that of the graph's pairs.
+/// and P that of the graph's pairs.
 pub fn poly<L: Ledger>(
     graph: &Graph,
     store: &Store,
@@ -50,16 +52,17 @@ pub fn poly<L: Ledger>(
     ensures at_least { steps.old ≤ steps.new }
 {
     scratch.begin(store, a, b);
-    reached_poly(graph, store, op, a, b, level, point, scratch, steps)
+    scratch.keep_down(store, u64::from(level) + 1, point, steps);
+    poly_kept(graph, store, op, a, b, level, point, scratch, steps)
 }
 
-/// The polynomial that `poly` gives, if the scratch is about `a` and `b` already: a scratch that is
-/// about two functions answers many polynomials of theirs, and their decisions are not looked for again.
+/// The polynomial that `poly` gives, if the scratch is about `a` and `b` already and keeps the values,
+/// at the point, of all decisions whose level is greater than `level`, and no others.
 ///
 /// It makes at most 2*N + 4*P products of elements, where N is the number of the decisions that `a`
-/// and `b` lead to and P that of the graph's pairs. Pairs whose level is below `level` cost nothing,
-/// but for one product each time that a pair above leads to one.
-pub fn reached_poly<L: Ledger>(
+/// and `b` lead to and whose values are not kept, and P that of the graph's pairs. Pairs whose level is
+/// below `level` cost nothing, but for one product each time that a pair above leads to one.
+pub fn poly_kept<L: Ledger>(
     graph: &Graph,
     store: &Store,
     op: Op,
@@ -77,14 +80,24 @@ pub fn reached_poly<L: Ledger>(
     requires level { level < length point.now }
     requires room { (length store.now.nodes ≤ scratch.old.nodes) × (length graph.now ≤ scratch.old.pairs) }
     requires reached { IsReached store.now.nodes a b scratch.old.reached }
+    requires above { IsDownTo store.now.nodes scratch.old.reached (length scratch.old.kept) (suc level) }
+    requires values { HasKept store.now.nodes (length point.now) (λ x. slice_index_or point.now x 0) scratch.old.reached scratch.old.kept }
     ensures poly { result ≡ joined_poly op (function store.now.nodes a) (function store.now.nodes b) (length point.now) level (λ x. slice_index_or point.now x 0) }
     ensures scratch { scratch.new ≡ scratch.old }
-    ensures at_most { steps.new ≤ steps.old + (2 * length store.now.nodes + 4 * length graph.now) }
-    ensures few { steps.new ≤ steps.old + (2 * length scratch.old.reached + 4 * length graph.now) }
+    ensures at_most { steps.new + 2 * length scratch.old.kept ≤ steps.old + (2 * length scratch.old.reached + 4 * length graph.now) }
     ensures at_least { steps.old ≤ steps.new }
 {
+    store.canonical_law();
     let reached = scratch.reached.numbers();
-    fill_lines(store, reached, level, point, &mut scratch.lines, steps);
+    fill_lines(
+        store,
+        reached,
+        scratch.kept,
+        level,
+        point,
+        &mut scratch.lines,
+        steps,
+    );
     pairs_poly(
         graph,
         store,

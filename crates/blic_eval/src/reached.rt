@@ -2,8 +2,8 @@
 ghost use Rattle.std.specs.Prelude.{◌≡◌, ◌+◌, ◌-◌, ◌<◌, ◌≤◌, IfNone, IfSome, length, vec_capacity};
 ghost use Rattle.blic_store.specs.Diagram.{IsRef};
 ghost use Rattle.blic_store.specs.Numbers.{Lacks};
-ghost use Rattle.blic_eval.specs.Reached.{IsAmong, IsClosed, IsReached};
-ghost use Rattle.blic_eval.specs.Walks.{AddsParts, HasSidesOf, IsMissingSide};
+ghost use Rattle.blic_eval.specs.Reached.{IsAmong, IsClosed};
+ghost use Rattle.blic_eval.specs.Walks.{AddsParts, HasSidesOf, IsFound, IsMissingSide};
 
 use crate::number_set::NumberSet;
 use blic_store::{Ref, Store};
@@ -16,7 +16,7 @@ pub(crate) fn reach(store: &Store, a: Ref, b: Ref, set: &mut NumberSet, path: &m
     requires b_held { IsRef store.now.nodes b }
     requires room { length store.now.nodes ≤ set.old.room }
     requires path { length store.now.nodes ≤ vec_capacity path.old }
-    ensures reached { IsReached store.now.nodes a b set.new.numbers }
+    ensures found { IsFound store.now.nodes a b set.new.numbers }
     ensures room { set.new.room ≡ set.old.room }
     ensures path { vec_capacity path.new ≡ vec_capacity path.old }
 {

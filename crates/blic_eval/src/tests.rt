@@ -1,5 +1,7 @@
 // Polynomials and values of functions of two and three levels, which integers in Python gave.
 ghost use Rattle.std.specs.Prelude.{◌≡◌, ◌<◌, ◌≤◌, IsTrue, length};
+ghost use Rattle.blic_store.specs.Diagram.{IsRef};
+ghost use Rattle.blic_graph.specs.Pairs.{IsGraph};
 ghost use Rattle.blic_eval.specs.Lines.{HasLevels};
 
 use super::*;
@@ -157,9 +159,105 @@ fn all_counted<L: Ledger>(
     let graph = Graph::list(alloc, store, a, b, 100)?;
     let mut steps = Steps::<L>::new(blank);
     let top = poly(&graph, store, op, a, b, 0, point, scratch, &mut steps);
-    let next = reached_poly(&graph, store, op, a, b, 1, point, scratch, &mut steps);
-    let values = reached_values(store, a, b, point, scratch, &mut steps);
+    let next = poly(&graph, store, op, a, b, 1, point, scratch, &mut steps);
+    let values = pair_values(store, a, b, point, scratch, &mut steps);
     Ok((top, next, values))
+}
+
+// Whether the polynomials of two functions of three levels are the same by values that are kept level by
+// level as by `poly`, which looks for all anew and then keeps as many values, and so of the two values.
+fn same_by_level<L: Ledger>(
+    graph: &Graph,
+    store: &Store,
+    op: Op,
+    refs: (Ref, Ref),
+    point: &[Fe],
+    kept: &mut Scratch,
+    anew: &mut Scratch,
+    steps: &mut Steps<L>,
+) -> bool
+    requires a_held { IsRef store.now.nodes refs.0 }
+    requires b_held { IsRef store.now.nodes refs.1 }
+    requires graph { IsGraph store.now.nodes refs.0 refs.1 graph.now }
+    requires levels { HasLevels store.now.nodes (length point.now) }
+    requires three { length point.now ≡ 3 }
+    requires kept { (length store.now.nodes ≤ kept.old.nodes) × (length graph.now ≤ kept.old.pairs) }
+    requires anew { (length store.now.nodes ≤ anew.old.nodes) × (length graph.now ≤ anew.old.pairs) }
+{
+    let (a, b) = refs;
+    let mut same = true;
+    let mut level = 3;
+    kept.begin(store, a, b);
+    kept.keep_down(store, 3, point, steps);
+    while level > 0 {
+        level -= 1;
+        let found = poly_kept(graph, store, op, a, b, level, point, kept, steps);
+        let expected = poly(graph, store, op, a, b, level, point, anew, steps);
+        same = same && found == expected && kept.kept() == anew.kept();
+        kept.keep(store, level, point[level as usize], steps);
+    }
+    let found = values_kept(store, a, b, kept);
+    same && found == pair_values(store, a, b, point, anew, steps)
+}
+
+// Whether two functions of three levels have the same polynomials and values by values that are kept
+// level by level as from nothing, and how many values are kept at the end.
+fn kept_counted<L: Ledger>(
+    alloc: Global,
+    store: &Store,
+    op: Op,
+    refs: (Ref, Ref),
+    point: &[Fe],
+    blank: Blank,
+) -> Result<(bool, u32), Fail>
+    requires name { blank.name ≡ L.name }
+    requires parts { blank.parts ≡ L.parts }
+    requires some { 0 < L.parts }
+{
+    if !store.holds(refs.0) || !store.holds(refs.1) {
+        return Err("a ref of another store")?;
+    }
+    if point.len() != 3 || !fits(store, point.len()) {
+        return Err("a level past the point")?;
+    }
+    let graph = Graph::list(alloc, store, refs.0, refs.1, 100)?;
+    let mut kept = Scratch::new(alloc, store.len(), graph.len())?;
+    let mut anew = Scratch::new(alloc, store.len(), graph.len())?;
+    let mut steps = Steps::<L>::new(blank);
+    let same = same_by_level(
+        &graph, store, op, refs, point, &mut kept, &mut anew, &mut steps,
+    );
+    Ok((same, kept.kept()))
+}
+
+// The values of both functions at a point, by a scratch that kept their values at another point before,
+// and how many values it kept after it was told to forget them.
+fn values_again_counted<L: Ledger>(
+    alloc: Global,
+    store: &Store,
+    refs: (Ref, Ref),
+    before: &[Fe],
+    point: &[Fe],
+    blank: Blank,
+) -> Result<(u32, (Fe, Fe)), Fail>
+    requires name { blank.name ≡ L.name }
+    requires parts { blank.parts ≡ L.parts }
+    requires some { 0 < L.parts }
+{
+    let (a, b) = refs;
+    if !store.holds(a) || !store.holds(b) {
+        return Err("a ref of another store")?;
+    }
+    if !fits(store, before.len()) || !fits(store, point.len()) {
+        return Err("a level past the point")?;
+    }
+    let mut scratch = Scratch::new(alloc, store.len(), 0)?;
+    let mut steps = Steps::<L>::new(blank);
+    pair_values(store, a, b, before, &mut scratch, &mut steps);
+    scratch.forget();
+    let forgotten = scratch.kept();
+    scratch.keep_down(store, 0, point, &mut steps);
+    Ok((forgotten, values_kept(store, a, b, &scratch)))
 }
 
 fn numbers(p: &Poly2) -> (u64, u64, u64) {
@@ -216,6 +314,27 @@ fn all_of(
         numbers(&next),
         (values.0.value(), values.1.value()),
     ))
+}
+
+// Whether values kept level by level give the same, and how many are kept at the end.
+fn kept_of(alloc: Global, store: &Store, op: Op, refs: (Ref, Ref)) -> Result<(bool, u32), Fail> {
+    let point = [element(7)?, element(11)?, element(13)?];
+    kept_counted::<Brand>(alloc, store, op, refs, &point, Blank::new(1))
+}
+
+// How many values were kept once those at another point were forgotten, and the values found then.
+fn values_again(alloc: Global, store: &Store, refs: (Ref, Ref)) -> Result<(u32, (u64, u64)), Fail> {
+    let before = [element(2)?, element(3)?, element(5)?];
+    let point = [element(7)?, element(11)?, element(13)?];
+    let (forgotten, (u, w)) = values_again_counted::<Brand>(
+        alloc,
+        store,
+        refs,
+        &before,
+        &point,
+        Blank::new(1),
+    )?;
+    Ok((forgotten, (u.value(), w.value())))
 }
 
 #[test]
@@ -319,5 +438,34 @@ fn one_scratch_serves_functions_in_turn_beside_many_others(rt: HostRuntime) -> R
     assert_eq!(rt; found, of_second);
     let found = all_of(rt.alloc(), &store, Op::And, first, &mut scratch)?;
     assert_eq!(rt; found, of_first);
+    Ok(())
+}
+
+#[test]
+fn values_kept_level_by_level_give_the_same_polynomials(rt: HostRuntime) -> Result<(), Fail> {
+    for (op, first, second, decisions) in [
+        (Op::And, 0x6a, 0x1d, 7),
+        (Op::Or, 0xca, 0x96, 8),
+        (Op::And, 0xaa, 0xf0, 2),
+        (Op::Or, 0xff, 0x96, 5),
+        (Op::And, 0x96, 0x96, 5),
+        (Op::Or, 0, 0xff, 0),
+    ] {
+        let mut store = Store::new(rt.alloc(), 100)?;
+        function(&mut store, 0x17)?;
+        let refs = (function(&mut store, first)?, function(&mut store, second)?);
+        let found = kept_of(rt.alloc(), &store, op, refs)?;
+        assert_eq!(rt; found, (true, decisions), "{first} and {second}");
+    }
+    Ok(())
+}
+
+#[test]
+fn forgotten_values_are_found_anew_at_another_point(rt: HostRuntime) -> Result<(), Fail> {
+    let mut store = Store::new(rt.alloc(), 100)?;
+    let refs = (function(&mut store, 0x6a)?, function(&mut store, 0x1d)?);
+    let (forgotten, values) = values_again(rt.alloc(), &store, refs)?;
+    assert_eq!(rt; forgotten, 0);
+    assert_eq!(rt; values, (MODULUS - 1852, MODULUS - 72));
     Ok(())
 }

@@ -4,15 +4,9 @@ use Rattle.blic_field.specs.Field.{blend}
 use Rattle.blic_poly2.specs.Poly.{lin_at}
 use Rattle.blic_store.specs.Diagram.{level_of}
 use Rattle.blic_eval.specs.Lines.{point_of}
-use Rattle.blic_eval.proofs.Refs.{has_sides, line_above, line_here, line_under, placed_at}
+use Rattle.blic_eval.proofs.Refs.{has_sides, line_above, line_here}
+use Rattle.blic_eval.proofs.Sorting.{level_of-decision}
 use Rattle.blic_eval.proofs.lines.line_of_decision.Goals as goal
-
-pub bounds-point-own-else-own-level-2 : goal.bounds-point-own-else-own-level-2
-bounds-point-own-else-own-level-2 g c =
-    let w = placed_at c.args.store.now.nodes c.canonical_law.ensures.canonical (length c.args.point.now) c.args.k c.requires.levels c.requires.k in
-    let l = w.level_in in
-    let e = c.level-own.ensures ∙ ap (level_of c.args.store.now.nodes) c.numbered-r.ensures in
-    omega arith
 
 pub returns-then-own-level-clause-line : goal.returns-then-own-level-clause-line
 returns-then-own-level-clause-line g c =
@@ -24,24 +18,14 @@ returns-then-own-level-clause-line g c =
     line_above nodes (length c.args.point.now) c.args.level (point_of c.args.point.now) c.args.k c.level-own.result c.line-low.result c.line-high.result c.blend.result sides c.if-own-level.true
     (λ t. c.blend.ensures.values t ∙ ap (λ z. blend z (lin_at c.line-low.result t) (lin_at c.line-high.result t)) read) c.blend.ensures.elements
 
-pub returns-then-own-level-2-clause-line : goal.returns-then-own-level-2-clause-line
-returns-then-own-level-2-clause-line g c =
+pub returns-else-own-level-clause-line : goal.returns-else-own-level-clause-line
+returns-else-own-level-clause-line g c =
     let nodes = c.args.store.now.nodes in
     let sides = has_sides nodes (length c.args.point.now) c.args.level (point_of c.args.point.now) c.args.k c.args.lines.now c.level-own.result c.numbered-r.result c.low.result c.high.result
     c.line-low.result c.line-high.result c.canonical_law.ensures.canonical c.requires.levels (record { held = c.requires.k; low = c.requires.low; high = c.requires.high })
     c.numbered-r.ensures c.level-own.ensures c.low.ensures c.high.ensures c.line-low.ensures c.line-high.ensures in
-    line_here nodes (length c.args.point.now) c.args.level (point_of c.args.point.now) c.args.k c.level-own.result c.line-low.result c.line-high.result _ sides c.if-own-level-2.true
+    let at = c.level-own.ensures ∙ (ap (level_of nodes) c.numbered-r.ensures ∙ level_of-decision nodes c.args.k) in
+    let most = c.requires.own in
+    let least = c.if-own-level.false in
+    line_here nodes (length c.args.point.now) c.args.level (point_of c.args.point.now) c.args.k c.level-own.result c.line-low.result c.line-high.result _ sides (omega arith)
     (λ i. record { c0 = c.line-low.result.c0; c1 = c.sub.ensures i })
-
-pub returns-else-own-level-2-clause-line : goal.returns-else-own-level-2-clause-line
-returns-else-own-level-2-clause-line g c =
-    let nodes = c.args.store.now.nodes in
-    let sides = has_sides nodes (length c.args.point.now) c.args.level (point_of c.args.point.now) c.args.k c.args.lines.now c.level-own.result c.numbered-r.result c.low.result c.high.result
-    c.line-low.result c.line-high.result c.canonical_law.ensures.canonical c.requires.levels (record { held = c.requires.k; low = c.requires.low; high = c.requires.high })
-    c.numbered-r.ensures c.level-own.ensures c.low.ensures c.high.ensures c.line-low.ensures c.line-high.ensures in
-    let inside = sides.in_levels in
-    let read = get_or_read c.args.point.now c.level-own.result c.index-point-own-else-own-level-2.result (omega arith) c.index-point-own-else-own-level-2.is 0 in
-    let value = c.blended.ensures.value ∙ ap (λ z. blend z c.line-low.result.c0 c.line-high.result.c0) read in
-    line_under nodes (length c.args.point.now) c.args.level (point_of c.args.point.now) c.args.k c.level-own.result c.line-low.result c.line-high.result _ sides
-    (let ne = c.if-own-level-2.false in let le = c.if-own-level.false in omega arith)
-    (c.constant.ensures ∙ (λ i. record { c0 = value i; c1 = 0 }))

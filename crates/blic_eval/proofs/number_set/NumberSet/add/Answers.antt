@@ -46,4 +46,5 @@ invariant_of-self c =
       subst (λ xs. HasPlaces xs (set places.items c.args.number c.len.result)) (sym c.push_reserved.ensures.items)
           (places_more numbers.items places.items c.args.number c.len.result c.self.invariant.0 room lacks len),
       omega arith,
+      c.self.invariant.2,
     )
