@@ -13,7 +13,7 @@ use crate::join::join_of;
 use crate::load::load;
 use blic_basic::Steps;
 use blic_claims::Points;
-use blic_eval::{Scratch, reached_poly};
+use blic_eval::{Scratch, poly_kept};
 use blic_field::Fe;
 use blic_model::Circuit;
 use blic_poly2::Poly2;
@@ -42,7 +42,7 @@ pub(crate) fn fill<L: Ledger>(
     requires room { HasRoom circuit.now scratch.old point.old }
     requires reached { IsAbout circuit.now.nodes plan.now node scratch.old.reached }
     ensures polys { out.new ≡ map (stored_poly circuit.now points.now node j) (below (claims circuit.now.nodes node)) }
-    ensures scratch { scratch.new ≡ scratch.old }
+    ensures reached { scratch.new.reached ≡ scratch.old.reached }
     ensures room { HasRoom circuit.now scratch.new point.new }
     ensures at_most { steps.new ≤ steps.old + length out.old * most_products circuit.now node }
     ensures at_least { steps.old ≤ steps.new }
@@ -84,7 +84,7 @@ fn claim_poly<L: Ledger>(
     requires room { HasRoom circuit.now scratch.old point.old }
     requires reached { IsAbout circuit.now.nodes plan.now node scratch.old.reached }
     ensures poly { result ≡ stored_poly circuit.now points.now node j claim }
-    ensures scratch { scratch.new ≡ scratch.old }
+    ensures reached { scratch.new.reached ≡ scratch.old.reached }
     ensures room { HasRoom circuit.now scratch.new point.new }
     ensures at_most { steps.new ≤ steps.old + most_products circuit.now node }
     ensures at_least { steps.old ≤ steps.new }
@@ -111,7 +111,8 @@ fn node_poly<L: Ledger>(
     requires room { HasRoom circuit.now scratch.old point.now }
     requires reached { IsAbout circuit.now.nodes plan.now node scratch.old.reached }
     ensures poly { result ≡ poly_of circuit.now.nodes (length circuit.now.order) node j (point_of point.now) }
-    ensures scratch { scratch.new ≡ scratch.old }
+    ensures reached { scratch.new.reached ≡ scratch.old.reached }
+    ensures room { HasRoom circuit.now scratch.new point.now }
     ensures at_most { steps.new ≤ steps.old + most_products circuit.now node }
     ensures at_least { steps.old ≤ steps.new }
 {
@@ -126,15 +127,10 @@ fn node_poly<L: Ledger>(
     };
     let level = circuit.free_at(node, j);
     let (first, second) = (plan.root(join.first), plan.root(join.second));
-    reached_poly(
-        graph,
-        plan.store(),
-        join.op,
-        first,
-        second,
-        level,
-        point,
-        scratch,
-        steps,
+    let store = plan.store();
+    scratch.forget();
+    scratch.keep_down(store, u64::from(level) + 1, point, steps);
+    poly_kept(
+        graph, store, join.op, first, second, level, point, scratch, steps,
     )
 }

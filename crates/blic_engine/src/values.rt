@@ -13,7 +13,7 @@ use crate::join::join_of;
 use crate::load::load;
 use blic_basic::Steps;
 use blic_claims::Points;
-use blic_eval::{Scratch, reached_values};
+use blic_eval::{Scratch, values_kept};
 use blic_field::Fe;
 use blic_model::Circuit;
 use blic_solve::Plan;
@@ -40,7 +40,7 @@ pub(crate) fn operand_values<L: Ledger>(
         (operands (node_at circuit.now.nodes node)).0 (stored_point circuit.now points.now node 0) }
     ensures second { result.1 ≡ value circuit.now.nodes (length circuit.now.order)
         (operands (node_at circuit.now.nodes node)).1 (stored_point circuit.now points.now node 0) }
-    ensures scratch { scratch.new ≡ scratch.old }
+    ensures reached { scratch.new.reached ≡ scratch.old.reached }
     ensures room { HasRoom circuit.now scratch.new point.new }
     ensures at_most { steps.new ≤ steps.old + most_products circuit.now node }
     ensures at_least { steps.old ≤ steps.new }
@@ -52,5 +52,8 @@ pub(crate) fn operand_values<L: Ledger>(
         return (Fe::ZERO, Fe::ZERO);
     };
     let (first, second) = (plan.root(join.first), plan.root(join.second));
-    reached_values(plan.store(), first, second, point, scratch, steps)
+    let store = plan.store();
+    scratch.forget();
+    scratch.keep_down(store, 0, point, steps);
+    values_kept(store, first, second, scratch)
 }

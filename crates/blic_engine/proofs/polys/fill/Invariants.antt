@@ -10,7 +10,7 @@ use Rattle.blic_engine.proofs.polys.fill.Given as goal
 abbrev pub invariant-loop-claim : goal.invariant-loop-claim
 invariant-loop-claim g l = record {
   filled : take l.claim l.out ≡ map (stored_poly l.circuit l.points l.node l.j) (below l.claim);
-  scratch : l.scratch ≡ l.fn.scratch;
+  reached : l.scratch.reached ≡ l.fn.scratch.reached;
   room : HasRoom l.circuit l.scratch l.point;
   at_most : l.steps ≤ l.initial.steps + l.claim * most_products l.circuit l.node;
   at_least : l.initial.steps ≤ l.steps;
