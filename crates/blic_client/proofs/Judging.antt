@@ -2,6 +2,7 @@
 use Rattle.std.proofs.Common.{ℕ, suc, ◌≡◌, refl, sym, ◌∙◌, ap, subst, List, length, Bor}
 use Rattle.std.specs.Prelude.{Option, Some, None, option_map, IfSome, Err}
 use Rattle.std.specs.Option.{option_copied}
+use Rattle.blic_inbox.specs.Listening.{IsDecided}
 use Rattle.blic_model.specs.Circuit.{OrderedCircuit}
 use Rattle.blic_messages.specs.Decoding.{Decoding, frame_at}
 use Rattle.blic_messages.specs.FrontLaws.{AreBytes}
@@ -16,7 +17,6 @@ use Rattle.blic_verifier.specs.Conversation.{Instance, Awaits, go_on, read_on}
 use Rattle.blic_verifier.specs.Verdict.{Talk, Verdict, next_after, with_draw, with_reply}
 use Rattle.blic_verifier.specs.Verdict as verdicts
 use Rattle.blic_verifier.proofs.GoingOn.{Came, came, goes_on}
-use Rattle.blic_client.specs.Listening.{IsDecided}
 use Rattle.blic_client.specs.UnderWay.{IsHearing, IsPrinted, IsReading, reply_line}
 use Rattle.blic_client.specs.declared.machine.Machine.{Machine}
 use Rattle.blic_client.specs.declared.verdict.Verdict.{Verdict as Ending}

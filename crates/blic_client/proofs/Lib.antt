@@ -2,8 +2,6 @@ pub mod Ends
 pub mod Judging
 pub mod Lines
 pub mod Onward
-pub mod Partials
 pub mod Parting
 pub mod Splitting
-pub mod Waits
 pub mod Way

@@ -5,11 +5,13 @@ use Rattle.std.specs.Io.KnownBytes.{append_known}
 use Rattle.std.proofs.lemmas.List.Elements.{All-nil}
 use Rattle.blic_claims.specs.Turns.{turns}
 use Rattle.blic_draw.specs.DrawRun.{draw_from}
+use Rattle.blic_inbox.specs.Listening.{Listens}
 use Rattle.blic_link.specs.Passing.{Piece, got, sent_bytes, with_pieces}
 use Rattle.blic_link.specs.Sending.{all_sent}
 use Rattle.blic_link.proofs.Joined.{with_none, with_pieces-append}
 use Rattle.blic_messages.specs.FrontLaws.{AreBytes}
 use Rattle.blic_messages.specs.Frames.{ask_spelling}
+use Rattle.blic_messages.specs.Fronts.{reply_grammar}
 use Rattle.blic_messages.specs.Replies.{Said}
 use Rattle.blic_messages.specs.declared.ask.Ask.{Ask}
 use Rattle.blic_messages.specs.declared.ask.Ask.TheVariants.{Hello}
@@ -21,7 +23,6 @@ use Rattle.blic_verifier.specs.Verdict.{Talk, Silent, Talked}
 use Rattle.blic_verifier.specs.declared.asker.Following.TheVariants.{Asks, Ends}
 use Rattle.blic_verifier.specs.declared.ending.Ending.{Ending}
 use Rattle.blic_client.specs.Linked.{LinkCounts, Linking, wanted}
-use Rattle.blic_client.specs.Listening.{Listens}
 use Rattle.blic_client.specs.UnderWay.{IsHearing, IsReading, IsSaying, linking, reply_line}
 use Rattle.blic_client.specs.declared.machine.Machine.{Machine}
 use Rattle.blic_client.specs.declared.verdict.Verdict.{Verdict}
@@ -115,7 +116,7 @@ not_said first draw m ask told mid now coming faults faults_now held held_mid he
 
 -- no reply was heard, or its line not printed
 pub not_heard : (first : Linking) (draw : ℕ → ℕ) (m k : Machine) (ask : Ask) (told mid now : Option (List Piece)) (coming : Option (List ℕ)) (faults faults_now : ℕ) (held held_mid held_now : Option (List ℕ)) (count : ℕ)
-    (new : List Piece) (v : Verdict) → IsSent first draw m ask told mid held held_mid count → linking m ≡ first → now ≡ with_pieces mid new → Listens m.inbox new
+    (new : List Piece) (v : Verdict) → IsSent first draw m ask told mid held held_mid count → linking m ≡ first → now ≡ with_pieces mid new → Listens reply_grammar m.inbox new
     → IsHearing m k (m.inbox ++ got new) coming held_mid held_now (Err v) → LinkCounts faults faults_now v → IsOver first draw told now coming faults faults_now held held_now v
 not_heard first draw m k ask told mid now coming faults faults_now held held_mid held_now count new v w same tells listens hears counts =
     let here = listened first.about draw ask w.talk w.draws w.heard w.pieces new m.inbox w.so w.reads listens in (
@@ -154,7 +155,7 @@ reads_on pieces heard bytes rest x draw ask next t u n m (Some s) is (size, e, l
 
 -- a reply was heard, and the next ask stands
 pub onward : (first : Linking) (draw : ℕ → ℕ) (m k : Machine) (ask next : Ask) (told mid now : Option (List Piece)) (coming held held_mid held_now : Option (List ℕ)) (count : ℕ) (new : List Piece)
-    → IsSent first draw m ask told mid held held_mid count → linking m ≡ first → draw ≡ draw_from m.asker.draws.source → now ≡ with_pieces mid new → Listens m.inbox new → AreBytes (m.inbox ++ got new)
+    → IsSent first draw m ask told mid held held_mid count → linking m ≡ first → draw ≡ draw_from m.asker.draws.source → now ≡ with_pieces mid new → Listens reply_grammar m.inbox new → AreBytes (m.inbox ++ got new)
     → IsHearing m k (m.inbox ++ got new) coming held_mid held_now (Ok (Asks next)) → IsOnWay first draw k next told now held held_now (count + 1)
 onward first draw m k ask next told mid now coming held held_mid held_now count new w same is_draw tells listens are (r, reading, line, judged) =
     let here = listened first.about draw ask w.talk w.draws w.heard w.pieces new m.inbox w.so w.reads listens in
@@ -175,7 +176,7 @@ onward first draw m k ask next told mid now coming held held_mid held_now count 
 
 -- what was heard ends it
 pub to_the_end : (first : Linking) (draw : ℕ → ℕ) (m k : Machine) (ask : Ask) (e : Ending) (told mid now : Option (List Piece)) (coming held held_mid held_now : Option (List ℕ)) (count : ℕ) (new : List Piece)
-    → IsSent first draw m ask told mid held held_mid count → linking m ≡ first → draw ≡ draw_from m.asker.draws.source → now ≡ with_pieces mid new → Listens m.inbox new → AreBytes (m.inbox ++ got new)
+    → IsSent first draw m ask told mid held held_mid count → linking m ≡ first → draw ≡ draw_from m.asker.draws.source → now ≡ with_pieces mid new → Listens reply_grammar m.inbox new → AreBytes (m.inbox ++ got new)
     → IsHearing m k (m.inbox ++ got new) coming held_mid held_now (Ok (Ends e))
     → (pieces : List Piece) × (t : Talk) × (now ≡ with_pieces told pieces) × HasEnded first draw pieces e t held held_now
 to_the_end first draw m k ask e told mid now coming held held_mid held_now count new w same is_draw tells listens are (r, reading, line, judged) =

@@ -6,6 +6,7 @@ use Rattle.std.proofs.lemmas.List.{drop-append-le}
 use Rattle.std.proofs.lemmas.List.Concat.{flat_map-cons}
 use Rattle.std.proofs.lemmas.List.Sums.{fold-append}
 use Rattle.std.proofs.lemmas.List.Elements.{All-nil, All-cons, All-append}
+use Rattle.blic_inbox.specs.Listening.{Listens}
 use Rattle.blic_link.specs.Pace.{Grows, KeepsPace}
 use Rattle.blic_link.specs.Passing.{Piece, Came, Went, got, sent_bytes}
 use Rattle.blic_link.specs.Sending.{all_sent}
@@ -28,7 +29,6 @@ use Rattle.blic_verifier.specs.Hearing.{asked, asks_from, position_of, readings,
 use Rattle.blic_verifier.specs.Verdict.{Talk}
 use Rattle.blic_verifier.proofs.Hearing.{asks_grow, readings_broken, readings_partial, readings_whole}
 use Rattle.blic_client.specs.Linked.{questions, wanted, wants_reply}
-use Rattle.blic_client.specs.Listening.{Listens}
 use Rattle.blic_client.specs.UnderWay.{IsReading}
 use Rattle.blic_client.proofs.Splitting.{asks_before, asks_more, asks_split, frames_before, one_asked, questions_split, record_split}
 
@@ -111,7 +111,7 @@ spelled_next ask asks later e = ap spelled e ∙ flat_map-cons ask_spelling ask 
 
 -- pieces came while all that is wanted was sent
 pub listened : (x : Instance) (draw : ℕ → ℕ) (ask : Ask) (t : Talk) (n : ℕ) (heard : List (Option Said)) (pieces new : List Piece) (inbox : List ℕ)
-    → IsSoFar x draw pieces heard (Awaits ask t n) (ask_spelling ask) → Reads pieces heard inbox → Listens inbox new
+    → IsSoFar x draw pieces heard (Awaits ask t n) (ask_spelling ask) → Reads pieces heard inbox → Listens reply_grammar inbox new
     → IsSoFar x draw (pieces ++ new) heard (Awaits ask t n) (ask_spelling ask) × Reads (pieces ++ new) heard (inbox ++ got new)
 listened x draw ask t n heard pieces [] inbox so reads l = (
   subst (λ z. IsSoFar x draw z heard (Awaits ask t n) (ask_spelling ask)) (sym (append-nil pieces)) so,

@@ -2,8 +2,6 @@
 #![tactic(auto)]
 
 mod client;
-mod inbox;
-mod listening;
 mod machine;
 mod verdict;
 

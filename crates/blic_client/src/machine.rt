@@ -2,10 +2,12 @@
 ghost use Rattle.std.specs.Prelude.{◌≡◌, ◌≤◌, ◌^◌, ◌++◌, ℕ, List, [], length, IfOk, IfSome, IsTrue, None, option_map, true};
 ghost use Rattle.blic_claims.specs.Places.{layout_of};
 ghost use Rattle.blic_draw.specs.DrawRun.{draw_from};
+ghost use Rattle.blic_inbox.specs.Listening.{Listens};
 ghost use Rattle.blic_link.specs.Passing.{Piece, got, sent_bytes, with_pieces};
 ghost use Rattle.blic_link.specs.Sending.{all_sent};
 ghost use Rattle.blic_messages.specs.Frames.{ask_spelling};
 ghost use Rattle.blic_messages.specs.FrontLaws.{AreBytes};
+ghost use Rattle.blic_messages.specs.Fronts.{reply_grammar};
 ghost use Rattle.blic_messages.specs.Reading.{IsReply};
 ghost use Rattle.blic_messages.specs.Replies.{said};
 ghost use Rattle.blic_messages.specs.declared.ask.Ask.TheVariants.{Hello as AskHello};
@@ -13,14 +15,12 @@ ghost use Rattle.blic_verifier.specs.Asking.{IsAt};
 ghost use Rattle.blic_verifier.specs.Conversation.{beginning};
 ghost use Rattle.blic_verifier.specs.Hearing.{record_frames};
 ghost use Rattle.blic_client.specs.Linked.{IsHeld, IsRecorded, LinkCounts, WriteCounts};
-ghost use Rattle.blic_client.specs.Listening.{Listens};
 ghost use Rattle.blic_client.specs.UnderWay.{AreFitted, IsHearing, IsParting, IsPrinted, IsSaying, LinkRises, WriteRises, linking, reply_line};
 
-use crate::inbox::Inbox;
-use crate::listening::{Heard, LONGEST_REPLY, listen};
 use crate::verdict::Verdict;
 use blic_basic::{NoMem, Sink, Steps};
 use blic_claims::Layout;
+use blic_inbox::{Heard, Inbox, listen};
 use blic_link::{Link, LinkFault, send_all};
 use blic_messages::{Ask, Hello, Reply, ReplyDecoder, encode_ask, encode_reply};
 use blic_model::Circuit;
@@ -31,6 +31,9 @@ use std::sync::ledger::Ledger;
 
 /// The length of the longest ask's frame.
 const LONGEST_ASK: usize = 43;
+
+/// The length of the longest reply's frame.
+const LONGEST_REPLY: usize = 5 + 24 * 65_536;
 
 /// What a client is made of, with all the memory that its conversations take.
 #[derive(Drop)]
@@ -138,7 +141,7 @@ impl<'c> Machine<'c> {
         ensures same { linking self.new ≡ linking self.old }
         ensures source { self.new.asker.draws.source ≡ self.old.asker.draws.source }
         ensures usable { K.is_usable link.new ≡ true }
-        ensures heard { (pieces : List Piece) × (K.pieces link.new ≡ with_pieces (K.pieces link.old) pieces) × Listens self.old.inbox pieces
+        ensures heard { (pieces : List Piece) × (K.pieces link.new ≡ with_pieces (K.pieces link.old) pieces) × Listens reply_grammar self.old.inbox pieces
             × AreBytes (self.old.inbox ++ got pieces)
             × IsHearing self.old self.new (self.old.inbox ++ got pieces) (K.coming link.new) (O.held out.old) (O.held out.new) result }
         ensures link_cause { LinkRises (K.faults link.old) (K.faults link.new) result }

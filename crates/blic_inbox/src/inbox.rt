@@ -2,7 +2,7 @@
 ghost use Rattle.std.specs.Prelude.{◌≡◌, ◌≤◌, ℕ, [], true, drop, length, take, IfOk, Option};
 ghost use Rattle.blic_link.specs.Passing.{ReceiveCounts};
 ghost use Rattle.blic_messages.specs.FrontLaws.{AreBytes};
-ghost use Rattle.blic_client.specs.Listening.{Fills};
+ghost use Rattle.blic_inbox.specs.Listening.{Fills};
 
 use blic_basic::NoMem;
 use blic_link::{Link, Received};
@@ -14,7 +14,7 @@ const ROOM: usize = 65_536;
 
 /// The bytes of the last piece that are not read yet. Contracts see these.
 #[derive(Drop)]
-pub(crate) struct Inbox {
+pub struct Inbox {
     bytes: Vec<u8>,
     start: usize,
     end: usize,
@@ -32,7 +32,7 @@ impl Model for Inbox {
 
 impl Inbox {
     /// With no bytes. Only this call takes memory.
-    pub(crate) fn new(alloc: Global) -> Result<Inbox, NoMem>
+    pub fn new(alloc: Global) -> Result<Inbox, NoMem>
         ensures { IfOk result (λ x. x ≡ []) }
     {
         Ok(Inbox {
@@ -43,7 +43,7 @@ impl Inbox {
     }
 
     /// The bytes that are not read yet.
-    pub(crate) fn waiting(&self) -> &[u8]
+    pub fn waiting(&self) -> &[u8]
         ensures same { result.now ≡ self.now }
         ensures bytes { AreBytes result.now }
     {
@@ -53,7 +53,7 @@ impl Inbox {
     }
 
     /// Leaves the first `count` bytes behind.
-    pub(crate) fn pass(&mut self, count: usize)
+    pub fn pass(&mut self, count: usize)
         requires { count ≤ length self.old }
         ensures { self.new ≡ drop count self.old }
     {
@@ -61,7 +61,7 @@ impl Inbox {
     }
 
     /// Leaves all bytes behind.
-    pub(crate) fn clear(&mut self)
+    pub fn clear(&mut self)
         ensures { self.new ≡ [] }
     {
         self.start = 0;
@@ -69,7 +69,7 @@ impl Inbox {
     }
 
     /// Takes the next piece from the link.
-    pub(crate) fn fill<K: Link>(&mut self, link: &mut K) -> Received
+    pub fn fill<K: Link>(&mut self, link: &mut K) -> Received
         requires usable { K.is_usable link.old ≡ true }
         requires empty { self.old ≡ [] }
         ensures bytes { Fills (K.pieces link.old) (K.pieces link.new) (K.coming link.new) result self.new }
