@@ -8,3 +8,6 @@ mod listening;
 pub use decoder::Decoder;
 pub use inbox::Inbox;
 pub use listening::{Heard, listen};
+
+#[cfg(test)]
+mod tests;
