@@ -1,0 +1,4 @@
+pub mod Sent
+pub mod Serving
+pub mod Streams
+pub mod UnderWay
