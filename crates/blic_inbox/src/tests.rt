@@ -1,7 +1,7 @@
 // Frames over links in memory that come in pieces of listed lengths, end and fail.
 use crate::{Heard, Inbox, listen};
 use blic_basic::NoMem;
-use blic_link::MemLink;
+use blic_link::{Link, MemLink};
 use blic_messages::{Ask, AskDecoder, Hello, Reply, ReplyDecoder, encode_ask};
 use std::alloc::Global;
 use std::test::Fail;
@@ -15,6 +15,9 @@ fn link_of(alloc: Global, coming: &[u8], most: u8, failing: &[u64]) -> Result<Me
 
 // What comes of waiting for an ask, the ask, and how many pieces have passed by then.
 fn next_ask(inbox: &mut Inbox, link: &mut MemLink) -> (Heard, Option<Ask>, u32) {
+    if !link.usable() {
+        return (Heard::Failed, None, 0);
+    }
     let mut decoder = AskDecoder::new();
     let heard = listen(&mut decoder, inbox, link);
     (heard, decoder.ask(), link.pieces())
@@ -26,6 +29,9 @@ fn next_answer(
     inbox: &mut Inbox,
     link: &mut MemLink,
 ) -> (Heard, Option<bool>, bool, u32) {
+    if !link.usable() {
+        return (Heard::Failed, None, false, 0);
+    }
     decoder.reset();
     let heard = listen(decoder, inbox, link);
     let answer = match decoder.reply() {
